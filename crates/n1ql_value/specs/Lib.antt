@@ -1,0 +1,4 @@
+pub mod Datum
+pub mod Names
+pub mod Depth
+pub mod ValueFalls

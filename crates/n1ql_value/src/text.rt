@@ -35,6 +35,13 @@ impl Text {
         Ok(Text { text })
     }
 
+    /// The same text again.
+    pub fn copy(&self, alloc: Global) -> Result<Text, Memory>
+        ensures { IfOk result (λ t. t ≡ self.now) }
+    {
+        Text::of(alloc, self.as_str())
+    }
+
     /// The text, to read.
     pub fn as_str(&self) -> &str
         ensures { result.now ≡ self.now }

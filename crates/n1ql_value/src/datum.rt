@@ -1,0 +1,15 @@
+use sqlite_items::Items;
+
+use crate::text::Text;
+
+/// What contracts see of a value inside another. No code makes one.
+#[derive(Drop)]
+pub enum Datum {
+    Missing,
+    Null,
+    Bool(bool),
+    Int(i64),
+    Text(Text),
+    Array(Items<Datum>),
+    Object(Items<(Text, Datum)>),
+}

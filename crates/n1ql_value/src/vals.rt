@@ -1,0 +1,93 @@
+ghost use Rattle.std.specs.Prelude.{◌≡◌, ◌++◌, ◌∷◌, [], length, slice_get, map, IfOk, OnOk, OnErr};
+ghost use Rattle.std.specs.Option.{option_map, option_copied};
+
+use std::alloc::Global;
+use std::marker::Model;
+
+use crate::memory::Memory;
+use crate::value::Value;
+
+/// A list of values. Contracts see the list.
+#[cycle(value)]
+#[derive(Drop)]
+pub struct Vals {
+    items: Vec<Value>,
+}
+
+impl Model for Vals {
+    ghost use Rattle.std.specs.Prelude.{List, map};
+    ghost use Rattle.n1ql_value.specs.declared.datum.Datum.{Datum};
+
+    ghost Value = { List Datum };
+
+    ghost use Rattle.n1ql_value.specs.contracts.datum.Datum as contracts;
+    ghost use Rattle.std.specs.Coded.{codes};
+
+    ghost coded = { Prim.hlevel (codes, contracts.the_row.coded) };
+
+    ghost use Rattle.n1ql_value.specs.Datum.{datum_of};
+    ghost use Rattle.n1ql_value.specs.Depth.{largest, depth};
+
+    ghost view = { λ a. map datum_of a.items.items };
+
+    ghost size = { λ ds. largest (map depth ds) };
+
+    ghost use Rattle.n1ql_value.specs.ValueFalls.{most_le-items};
+
+    ghost size_decreases = { λ a h. most_le-items a.items.items };
+}
+
+impl Vals {
+    ghost use Rattle.n1ql_value.specs.Datum.{datum_of};
+
+    /// No values yet.
+    pub fn new(alloc: Global) -> Vals
+        ensures { result ≡ [] }
+    {
+        Vals {
+            items: Vec::new(alloc),
+        }
+    }
+
+    /// How many values there are.
+    pub fn len(&self) -> usize
+        ensures { result ≡ length self.now }
+    {
+        self.items.len()
+    }
+
+    /// The value at a place from 0, None past the last.
+    pub fn get(&self, at: usize) -> Option<&Value>
+        ensures { option_map datum_of (option_copied result) ≡ slice_get self.now at }
+    {
+        self.items.get(at)
+    }
+
+    /// The values, to go over.
+    pub fn as_slice(&self) -> &[Value]
+        ensures { map datum_of result.now ≡ self.now }
+    {
+        self.items.as_slice()
+    }
+
+    /// Adds a value at the end.
+    pub fn push(&mut self, value: Value) -> Result<(), Memory>
+        ensures ok { OnOk result (self.new ≡ self.old ++ datum_of value ∷ []) }
+        ensures err { OnErr result (self.new ≡ self.old) }
+    {
+        self.items.push(value)?;
+        Ok(())
+    }
+
+    /// The same values again.
+    #[cycle(copies)]
+    pub fn copy(&self, alloc: Global) -> Result<Vals, Memory>
+        ensures { IfOk result (λ vs. vs ≡ self.now) }
+    {
+        let mut items = Vec::with_capacity(alloc, self.items.len())?;
+        for item in &self.items {
+            items.push(item.copy(alloc)?)?;
+        }
+        Ok(Vals { items })
+    }
+}
