@@ -1,7 +1,9 @@
 -- What contracts see of a value.
-use Rattle.std.specs.Prelude.{ℕ, List, map}
-use Rattle.n1ql_value.specs.declared.datum.Datum.{Datum}
+use Rattle.std.specs.Prelude.{◌≡◌, ℕ, List}
+use Rattle.n1ql_value.specs.declared.datum.Datum.{Datum, out-Datum}
+use Rattle.n1ql_value.specs.declared.datum.Datum.TheOpen.{Datum-F}
 use Rattle.n1ql_value.specs.declared.datum.Datum.TheVariants as datum
+use Rattle.n1ql_value.specs.declared.text.Text.{Text as Bytes}
 use Rattle.n1ql_value.specs.declared.value.Value.{Value}
 use Rattle.n1ql_value.specs.declared.value.Value.TheVariants.{Missing, Null, Bool, Int, Text, Array, Object}
 
@@ -14,3 +16,27 @@ datum_of (Int z) = datum.Int z
 datum_of (Text t) = datum.Text t
 datum_of (Array ds) = datum.Array ds
 datum_of (Object ps) = datum.Object ps
+
+-- a pair of an object, whole
+abbrev pub pair_of : Bytes × Value → List ℕ × Datum
+pair_of e = (e.0, datum_of e.1)
+
+-- one level of the value, with all below it whole
+abbrev pub layer_of : Value → Datum-F Datum
+layer_of Missing = Datum-F.Missing
+layer_of Null = Datum-F.Null
+layer_of (Bool b) = Datum-F.Bool b
+layer_of (Int z) = Datum-F.Int z
+layer_of (Text t) = Datum-F.Text t
+layer_of (Array ds) = Datum-F.Array ds
+layer_of (Object ps) = Datum-F.Object ps
+
+-- the top of a value is its layer
+pub out_datum_of : (v : Value) → out-Datum (datum_of v) ≡ layer_of v
+out_datum_of Missing = datum.outs-Missing
+out_datum_of Null = datum.outs-Null
+out_datum_of (Bool b) = datum.outs-Bool b
+out_datum_of (Int z) = datum.outs-Int z
+out_datum_of (Text t) = datum.outs-Text t
+out_datum_of (Array ds) = datum.outs-Array ds
+out_datum_of (Object ps) = datum.outs-Object ps

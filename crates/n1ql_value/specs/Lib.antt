@@ -2,3 +2,9 @@ pub mod Datum
 pub mod Names
 pub mod Depth
 pub mod ValueFalls
+pub mod Layers
+pub mod Collation
+pub mod CollationByCases
+pub mod CollationLaws
+pub mod Rank
+pub mod CollationOfValues

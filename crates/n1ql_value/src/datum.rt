@@ -1,6 +1,5 @@
-use sqlite_items::Items;
-
 use crate::text::Text;
+use sqlite_items::Items;
 
 /// What contracts see of a value inside another. No code makes one.
 #[derive(Drop)]

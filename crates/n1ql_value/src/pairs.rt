@@ -1,11 +1,10 @@
 ghost use Rattle.std.specs.Prelude.{◌≡◌, [], length, map, IfOk};
 
-use std::alloc::Global;
-use std::marker::Model;
-
 use crate::memory::Memory;
 use crate::text::Text;
 use crate::value::Value;
+use std::alloc::Global;
+use std::marker::Model;
 
 /// The pairs of an object, names in byte order and each once. Contracts see the list of pairs.
 #[cycle(value)]
@@ -25,11 +24,11 @@ impl Model for Pairs {
 
     ghost coded = { Prim.hlevel (codes, contracts.the_row.coded) };
 
-    ghost use Rattle.n1ql_value.specs.Datum.{datum_of};
+    ghost use Rattle.n1ql_value.specs.Datum.{datum_of, pair_of};
     ghost use Rattle.n1ql_value.specs.Depth.{largest, depth};
     ghost use Rattle.n1ql_value.specs.Names.{NamesGrow};
 
-    ghost view = { λ a. map (λ e. (e.0, datum_of e.1)) a.entries.items };
+    ghost view = { λ a. map pair_of a.entries.items };
 
     ghost invariant = { λ a. NamesGrow a.entries.items };
 
@@ -41,7 +40,7 @@ impl Model for Pairs {
 }
 
 impl Pairs {
-    ghost use Rattle.n1ql_value.specs.Datum.{datum_of};
+    ghost use Rattle.n1ql_value.specs.Datum.{datum_of, pair_of};
 
     /// No pairs yet.
     pub fn new(alloc: Global) -> Pairs
@@ -61,7 +60,7 @@ impl Pairs {
 
     /// The pairs, to go over.
     pub fn as_slice(&self) -> &[(Text, Value)]
-        ensures { map (λ e. (e.0, datum_of e.1)) result.now ≡ self.now }
+        ensures { map pair_of result.now ≡ self.now }
     {
         self.entries.as_slice()
     }

@@ -1,11 +1,10 @@
 ghost use Rattle.std.specs.Prelude.{◌≡◌, ◌++◌, ◌∷◌, [], length, slice_get, map, IfOk, OnOk, OnErr};
 ghost use Rattle.std.specs.Option.{option_map, option_copied};
 
-use std::alloc::Global;
-use std::marker::Model;
-
 use crate::memory::Memory;
 use crate::value::Value;
+use std::alloc::Global;
+use std::marker::Model;
 
 /// A list of values. Contracts see the list.
 #[cycle(value)]

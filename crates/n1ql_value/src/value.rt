@@ -1,11 +1,10 @@
 ghost use Rattle.std.specs.Prelude.{◌≡◌, IfOk};
 
-use std::alloc::Global;
-
 use crate::memory::Memory;
 use crate::pairs::Pairs;
 use crate::text::Text;
 use crate::vals::Vals;
+use std::alloc::Global;
 
 /// A value of N1QL: JSON (RFC 8259) with whole numbers alone, and MISSING.
 #[cycle(value)]

@@ -1,0 +1,100 @@
+ghost use Rattle.std.specs.Prelude.{◌≡◌, map, length};
+ghost use Rattle.std.specs.Cmp.Lexicographic.{slice_cmp};
+ghost use Rattle.std.specs.Ordering.{nat_cmp, ordering_then};
+ghost use Rattle.n1ql_value.specs.Datum.{datum_of, pair_of};
+ghost use Rattle.n1ql_value.specs.Rank.{rank_of};
+ghost use Rattle.n1ql_value.specs.Collation.{value_cmp, pair_cmp, keys_cmp, row_cmp};
+
+use crate::row::Row;
+use crate::text::Text;
+use crate::value::Value;
+use std::cmp::Ordering;
+
+/// The order of two values: MISSING, NULL, FALSE, TRUE, numbers, strings, arrays, objects, as the N1QL reference's
+/// collation has the types. Numbers go by value, strings by their bytes, arrays element by element with a proper prefix
+/// smaller, objects by the number of names and then by their pairs in byte order of names.
+#[cycle(collation)]
+pub fn collate(a: &Value, b: &Value) -> Ordering
+    ensures { result ≡ value_cmp (datum_of a.now) (datum_of b.now) }
+{
+    match a {
+        Value::Int(x) => match b {
+            Value::Int(y) => x.cmp(y),
+            _ => rank(a).cmp(&rank(b)),
+        },
+        Value::Text(x) => match b {
+            Value::Text(y) => x.cmp(y),
+            _ => rank(a).cmp(&rank(b)),
+        },
+        Value::Array(xs) => match b {
+            Value::Array(ys) => collate_items(xs.as_slice(), ys.as_slice()),
+            _ => rank(a).cmp(&rank(b)),
+        },
+        Value::Object(ps) => match b {
+            Value::Object(qs) => collate_objects(ps.as_slice(), qs.as_slice()),
+            _ => rank(a).cmp(&rank(b)),
+        },
+        _ => rank(a).cmp(&rank(b)),
+    }
+}
+
+/// Arrays, element by element.
+#[cycle(collation)]
+fn collate_items(a: &[Value], b: &[Value]) -> Ordering
+    ensures { result ≡ slice_cmp value_cmp (map datum_of a.now) (map datum_of b.now) }
+{
+    for place in 0..a.len().min(b.len()) {
+        match collate(&a[place], &b[place]) {
+            Ordering::Equal => {}
+            order => return order,
+        }
+    }
+    a.len().cmp(&b.len())
+}
+
+/// Objects, by the number of names, then pair by pair with the name before the value.
+#[cycle(collation)]
+fn collate_objects(a: &[(Text, Value)], b: &[(Text, Value)]) -> Ordering
+    ensures { result ≡ ordering_then (nat_cmp (length a.now) (length b.now))
+        (slice_cmp (pair_cmp value_cmp) (map pair_of a.now) (map pair_of b.now)) }
+{
+    match a.len().cmp(&b.len()) {
+        Ordering::Equal => collate_entries(a, b),
+        order => order,
+    }
+}
+
+/// Equally many pairs, pair by pair with the name before the value.
+#[cycle(collation)]
+fn collate_entries(a: &[(Text, Value)], b: &[(Text, Value)]) -> Ordering
+    requires { length a.now ≡ length b.now }
+    ensures { result ≡ slice_cmp (pair_cmp value_cmp) (map pair_of a.now) (map pair_of b.now) }
+{
+    for place in 0..a.len() {
+        match a[place].0.cmp(&b[place].0) {
+            Ordering::Equal => {}
+            order => return order,
+        }
+        match collate(&a[place].1, &b[place].1) {
+            Ordering::Equal => {}
+            order => return order,
+        }
+    }
+    Ordering::Equal
+}
+
+/// The place of a value's type in the order of types.
+fn rank(value: &Value) -> u8
+    ensures { result ≡ rank_of value.now }
+{
+    match value {
+        Value::Missing => 0,
+        Value::Null => 1,
+        Value::Bool(false) => 2,
+        Value::Bool(true) => 3,
+        Value::Int(_) => 4,
+        Value::Text(_) => 5,
+        Value::Array(_) => 6,
+        Value::Object(_) => 7,
+    }
+}
