@@ -1,5 +1,5 @@
 -- The order of values and of rows: the collation of types, and within a type the order of its values.
-use Rattle.std.specs.Prelude.{ℕ, ◌==◌, List, [], ◌∷◌, length}
+use Rattle.std.specs.Prelude.{ℕ, ◌==◌, List, [], ◌∷◌, length, slice_index_or}
 use Rattle.std.specs.Ordering.{nat_cmp, int_cmp, ordering_then}
 use Rattle.std.specs.declared.cmp.Ordering.{Ordering}
 use Rattle.std.specs.declared.cmp.Ordering.TheVariants.{Less, Equal, Greater}
@@ -31,6 +31,10 @@ compare_with a b = layer_cmp (λ compare d. compare d) a (out-Datum b)
 -- the order of values
 unfoldable pub value_cmp : Datum → Datum → Ordering
 value_cmp = fold-Datum (Datum → Ordering) compare_with
+
+-- the key at a place, MISSING past the keys
+abbrev pub key_at : List Datum → ℕ → Datum
+key_at ks place = slice_index_or ks place datum.Missing
 
 -- the keys of rows, place by place; a place past the keys reads MISSING
 abbrev pub keys_cmp : List Datum → List Datum → Ordering

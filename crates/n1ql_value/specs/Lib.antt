@@ -8,3 +8,5 @@ pub mod CollationByCases
 pub mod CollationLaws
 pub mod Rank
 pub mod CollationOfValues
+pub mod Ranges
+pub mod RowLaws

@@ -3,10 +3,11 @@ ghost use Rattle.std.specs.Cmp.Lexicographic.{slice_cmp};
 ghost use Rattle.std.specs.Ordering.{nat_cmp, ordering_then};
 ghost use Rattle.n1ql_value.specs.Datum.{datum_of, pair_of};
 ghost use Rattle.n1ql_value.specs.Rank.{rank_of};
-ghost use Rattle.n1ql_value.specs.Collation.{value_cmp, pair_cmp, keys_cmp, row_cmp};
+ghost use Rattle.n1ql_value.specs.Collation.{value_cmp, pair_cmp, key_at, keys_cmp, row_cmp};
 
 use crate::row::Row;
 use crate::text::Text;
+use crate::vals::Vals;
 use crate::value::Value;
 use std::cmp::Ordering;
 
@@ -36,6 +37,39 @@ pub fn collate(a: &Value, b: &Value) -> Ordering
         },
         _ => rank(a).cmp(&rank(b)),
     }
+}
+
+/// The order of two rows: by their keys place by place, where a place past the keys reads MISSING, then the fewer keys
+/// first, then by id.
+pub fn collate_rows(a: &Row, b: &Row) -> Ordering
+    ensures { result ≡ row_cmp a.now b.now }
+{
+    collate_keys(&a.keys, &b.keys)
+        .then_with(|| a.keys.len().cmp(&b.keys.len()))
+        .then_with(|| a.id.cmp(&b.id))
+}
+
+/// Keys place by place. A place past the keys reads MISSING.
+fn collate_keys(a: &Vals, b: &Vals) -> Ordering
+    ensures { result ≡ keys_cmp a.now b.now }
+{
+    for place in 0..a.len().max(b.len()) {
+        match collate_at(a, b, place) {
+            Ordering::Equal => {}
+            order => return order,
+        }
+    }
+    Ordering::Equal
+}
+
+/// The keys at one place.
+fn collate_at(a: &Vals, b: &Vals, place: usize) -> Ordering
+    ensures { result ≡ value_cmp (key_at a.now place) (key_at b.now place) }
+{
+    collate(
+        a.get_or(place, &Value::Missing),
+        b.get_or(place, &Value::Missing),
+    )
 }
 
 /// Arrays, element by element.

@@ -3,20 +3,29 @@
 
 mod collation;
 mod datum;
+mod laws;
 mod list_of;
 mod memory;
 mod pairs;
+mod range;
 mod row;
+mod span;
 mod text;
 mod vals;
 mod value;
 
-pub use collation::collate;
+pub use collation::{collate, collate_rows};
 pub use datum::Datum;
+pub use laws::{
+    alike_rows_are_equal, alike_values_are_equal, order_by_cases, order_of_rows_is_total,
+    order_of_values_is_total,
+};
 pub use list_of::ListOf;
 pub use memory::{Failed, Memory};
 pub use pairs::Pairs;
+pub use range::Range;
 pub use row::Row;
+pub use span::{Span, Spans};
 pub use text::Text;
 pub use vals::Vals;
 pub use value::Value;

@@ -1,4 +1,4 @@
-ghost use Rattle.std.specs.Prelude.{◌≡◌, ◌++◌, ◌∷◌, [], length, slice_get, map, IfOk, OnOk, OnErr};
+ghost use Rattle.std.specs.Prelude.{◌≡◌, ◌++◌, ◌∷◌, [], length, slice_get, slice_index_or, map, IfOk, OnOk, OnErr};
 ghost use Rattle.std.specs.Option.{option_map, option_copied};
 
 use crate::memory::Memory;
@@ -60,6 +60,13 @@ impl Vals {
         ensures { option_map datum_of (option_copied result) ≡ slice_get self.now at }
     {
         self.items.get(at)
+    }
+
+    /// The value at a place from 0, and past the last another one.
+    pub fn get_or<'a>(&'a self, at: usize, other: &'a Value) -> &'a Value
+        ensures { datum_of result.now ≡ slice_index_or self.now at (datum_of other.now) }
+    {
+        self.items.get(at).unwrap_or(other)
     }
 
     /// The values, to go over.

@@ -1,0 +1,5 @@
+use Rattle.n1ql_value.specs.CollationByCases.{value_cmp-by_layer}
+use Rattle.n1ql_value.proofs.laws.order_by_cases.Goals as goal
+
+pub returns : goal.returns
+returns c = value_cmp-by_layer

@@ -1,0 +1,5 @@
+use Rattle.n1ql_value.specs.CollationLaws.{value_cmp-total}
+use Rattle.n1ql_value.proofs.laws.order_of_values_is_total.Goals as goal
+
+pub returns : goal.returns
+returns c = value_cmp-total
