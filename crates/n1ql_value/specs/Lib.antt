@@ -2,3 +2,4 @@ pub mod Datum
 pub mod Names
 pub mod Depth
 pub mod ValueFalls
+pub mod SortedLists
