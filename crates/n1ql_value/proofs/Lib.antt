@@ -1,2 +1,3 @@
 mod Slices
 mod Keys
+pub mod SortedListLaws

@@ -10,3 +10,4 @@ pub mod Rank
 pub mod CollationOfValues
 pub mod Ranges
 pub mod RowLaws
+pub mod SortedLists
