@@ -1,21 +1,27 @@
 -- Changes of documents by mutations.
-use Rattle.std.proofs.Common.{◌≡◌, ◌≢◌, ℕ, ◌+◌, ◌<◌, ◌≤◌, List, [], ◌∷◌, ◌++◌, Bool, true, false, cond, Option, Some, None, leb, eqb, T, get_or, length, set, refl, ap, sym, subst, ◌∙◌, inl, inr, arith, append_assoc, ltb}
-use Rattle.std.specs.List.{filter, fold}
+use Rattle.std.proofs.Common.{◌≡◌, ◌≢◌, ℕ, ◌+◌, ◌<◌, ◌≤◌, List, [], ◌∷◌, ◌++◌, Bool, true, false, cond, Option, Some, None, leb, eqb, T, get_or, length, set, refl, ap, sym, subst, ◌∙◌, inl, inr, arith, append_assoc, append-nil, ltb, take, drop, suc, ◌-◌}
+use Rattle.std.specs.List.{filter, fold, Contains}
 use Rattle.std.specs.Ordering.{nat_cmp, eq_by_cmp, is_eq}
 use Rattle.std.specs.declared.cmp.Ordering.{Ordering}
 use Rattle.std.specs.declared.cmp.Ordering.TheVariants.{Less, Equal, Greater}
 use Rattle.std.specs.Cmp.Lexicographic.{slice_cmp, nat_list_cmp_total}
 use Rattle.std.specs.FinMap as map
-use Rattle.std.proofs.lemmas.Bool.{cases_lt, lt-ltb, le-leb}
+use Rattle.std.proofs.lemmas.Bool.{cases_lt, lt-ltb, le-leb, cond-true, eq-eqb}
 use Rattle.std.proofs.lemmas.Bool.Decides.{leb_tells, eqb_tells}
-use Rattle.std.proofs.lemmas.List.{get_or-set_other}
+use Rattle.std.proofs.lemmas.List.{get_or-set_other, get_or_past, take-append-drop}
+use Rattle.std.proofs.Math.Seq.{drop-append_seam, drop-cons}
+use Rattle.std.specs.Prelude.{slice_range}
+use Rattle.std.proofs.lemmas.List.Elements.{filter-append}
+use Rattle.std.proofs.lemmas.List.Sums.{fold-append}
+use Rattle.std.proofs.lemmas.Map.Text.{is_eq-slice_cmp}
+use Rattle.std.specs.Str.{bytes_eq}
 use Rattle.std.proofs.lemmas.Grind.{get_or-set_at}
 use Rattle.n1ql_value.specs.declared.value.Value.{Value}
-use Rattle.seq_vector.specs.Vectors.{vbucket_of, entry}
+use Rattle.seq_vector.specs.Vectors.{vbucket_of, IsCovered}
 use Rattle.vb_store.specs.declared.mutation.Mutation.{Mutation}
-use Rattle.vb_store.specs.Mutations.{of_vbucket, count_of, IsNumberedBehind, IsNumbered, high_of, slice_of}
-use Rattle.vb_store.specs.Documents.{Documents, with_body, with_mutation, with_mutations, reaches, documents_at}
-use Rattle.vb_store.proofs.Numbering.{count_of-append, count_of-cons, count_of-push, leb_from_lt, ltb_from_le}
+use Rattle.vb_store.specs.Mutations.{of_vbucket, count_of, IsNumberedBehind, IsNumbered, high_of, slice_of, current_of}
+use Rattle.vb_store.specs.Documents.{Documents, with_body, with_mutation, with_mutations, reaches, documents_at, body_of}
+use Rattle.vb_store.proofs.Numbering.{numbered_parts, of_vbucket-append, slice_of-places, entry-high_of, entry-high_of-le, count_of-append, count_of-cons, count_of-push, leb_from_lt, ltb_from_le}
 
 abbrev is_same : List ℕ → List ℕ → Bool
 is_same q id = eq_by_cmp (slice_cmp nat_cmp) q id
@@ -102,3 +108,81 @@ with_mutations-slice n v vb upto before (x ∷ xs) docs h within le =
             ]
         ]
     ]
+
+-- documents at High
+pub all_reached : (n : ℕ) (v : List ℕ) (before ms : List Mutation) → IsNumberedBehind n before ms → ((vb : ℕ) → vb < n → count_of vb (before ++ ms) ≤ get_or v vb 0) → 0 < n → filter (reaches v) ms ≡ ms
+all_reached n v before [] h high some = refl
+all_reached n v before (x ∷ xs) h high some =
+    let bucket : x.vb < n = omega (arith, h.0.bucket) in
+    let e : leb x.seqno (get_or v x.vb 0) ≡ true = le-leb x.seqno (get_or v x.vb 0)
+      (omega (arith, high x.vb bucket, h.0.number, count_of-append x.vb before (x ∷ xs), count_of-cons x.vb x xs, cond-true {A = ℕ} (eqb x.vb x.vb) 1 0 (eq-eqb x.vb x.vb refl))) in
+    rw e (ap (λ ys. x ∷ ys) (all_reached n v (before ++ x ∷ []) xs h.1 (λ vb lt. subst (λ (l : List Mutation). count_of vb l ≤ get_or v vb 0) (sym (append_assoc before (x ∷ []) xs)) (high vb lt)) some))
+
+pub none_reached : (n : ℕ) (v : List ℕ) (before ms : List Mutation) → IsNumberedBehind n before ms → ((vb : ℕ) → get_or v vb 0 ≤ count_of vb before) → filter (reaches v) ms ≡ []
+none_reached n v before [] h low = refl
+none_reached n v before (x ∷ xs) h low =
+    let e : leb x.seqno (get_or v x.vb 0) ≡ false = leb_from_lt x.seqno (get_or v x.vb 0) (omega (arith, low x.vb, h.0.number)) in
+    rw e (none_reached n v (before ++ x ∷ []) xs h.1 (λ vb. omega (arith, low vb, count_of-push vb before x)))
+
+pub documents_at-high : (n : ℕ) (log : List Mutation) → IsNumbered n log → 0 < n → documents_at log (high_of n log) ≡ with_mutations map.empty log
+unfolding documents_at
+documents_at-high n log h some = ap (with_mutations map.empty) (all_reached n (high_of n log) [] log h (λ vb lt. omega (arith, entry-high_of n log vb lt)) some)
+
+pub documents_at-append : (n : ℕ) (log more : List Mutation) (v : List ℕ) → IsNumbered n (log ++ more) → IsCovered v (high_of n log) → documents_at (log ++ more) v ≡ documents_at log v
+unfolding documents_at
+documents_at-append n log more v h covered =
+    let none : filter (reaches v) more ≡ [] = none_reached n v log more (numbered_parts n [] log more h).1
+      (λ vb. elim (cases_lt vb (length v)) [
+        | inl lt ↦ omega (arith, covered vb lt, entry-high_of-le n log vb)
+        | inr ge ↦ omega (arith, get_or_past v vb 0 ge)
+      ]) in
+    ap (with_mutations map.empty) (filter-append (reaches v) log more ∙ ap (λ ys. filter (reaches v) log ++ ys) none ∙ append-nil _)
+
+pub documents_at-slice : (n : ℕ) (log : List Mutation) (v : List ℕ) (vb upto : ℕ) → IsNumbered n log → vb < length v → get_or v vb 0 ≤ upto → documents_at log (set v vb upto) ≡ with_mutations (documents_at log v) (slice_of log vb (get_or v vb 0) upto)
+unfolding documents_at
+documents_at-slice n log v vb upto h within le = with_mutations-slice n v vb upto [] log map.empty h within le
+
+-- one mutation between two numbers that follow one another
+pub slice_of-one : (n : ℕ) (before after : List Mutation) (m : Mutation) (k : ℕ) → IsNumbered n (before ++ m ∷ after) → k + 1 ≡ m.seqno → slice_of (before ++ m ∷ after) m.vb k m.seqno ≡ m ∷ []
+slice_of-one n before after m k h e =
+    let vb = m.vb in
+    let next = (numbered_parts n [] before (m ∷ after) h).1.0.number in
+    let first = of_vbucket vb before in
+    let rest = of_vbucket vb after in
+    let self : of_vbucket vb (m ∷ after) ≡ m ∷ rest = ap (λ b. cond b (m ∷ rest) rest) (eq-eqb vb vb refl) in
+    let place : k ≡ length first = omega arith in
+    let one : m.seqno - k ≡ 1 = omega arith in
+    slice_of-places n (before ++ m ∷ after) vb k m.seqno h
+    ∙ ap (λ ys. slice_range ys k m.seqno) (of_vbucket-append vb before (m ∷ after) ∙ ap (λ ys. first ++ ys) self)
+    ∙ ap (λ j. take (m.seqno - k) (drop j (first ++ m ∷ rest))) place
+    ∙ ap (take (m.seqno - k)) (drop-append_seam first (m ∷ rest))
+    ∙ ap (λ j. take j (m ∷ rest)) one
+
+pub documents_at-next : (n : ℕ) (log : List Mutation) (v : List ℕ) (m : Mutation) → IsNumbered n log → Contains log m → m.vb < length v → get_or v m.vb 0 + 1 ≡ m.seqno → documents_at log (set v m.vb m.seqno) ≡ with_mutation (documents_at log v) m
+documents_at-next n log v m h has within next =
+    let i = has.0 in
+    let whole : take i log ++ m ∷ drop (suc i) log ≡ log =
+      ap (λ ys. take i log ++ ys) (sym (drop-cons log i m has.1 ∙ ap (λ y. y ∷ drop (suc i) log) has.2)) ∙ take-append-drop i log in
+    let one : slice_of log m.vb (get_or v m.vb 0) m.seqno ≡ m ∷ [] =
+      subst (λ l. slice_of l m.vb (get_or v m.vb 0) m.seqno ≡ m ∷ []) whole (slice_of-one n (take i log) (drop (suc i) log) m (get_or v m.vb 0) (subst (IsNumbered n) (sym whole) h) next) in
+    documents_at-slice n log v m.vb m.seqno h within (omega arith) ∙ ap (with_mutations (documents_at log v)) one
+
+pub documents_at-push : (n : ℕ) (log : List Mutation) (m : Mutation) → IsNumbered n (log ++ m ∷ []) → 0 < n → documents_at (log ++ m ∷ []) (high_of n (log ++ m ∷ [])) ≡ with_mutation (documents_at log (high_of n log)) m
+documents_at-push n log m h some =
+    documents_at-high n (log ++ m ∷ []) h some ∙ fold-append with_mutation map.empty log (m ∷ [])
+    ∙ ap (λ d. with_mutation d m) (sym (documents_at-high n log (numbered_parts n [] log (m ∷ []) h).0 some))
+
+-- the document of an id is the body of its last mutation
+last_body : (last : Option Mutation) (ms : List Mutation) (docs : Documents) (id : List ℕ) → map.get docs id ≡ body_of last → map.get (with_mutations docs ms) id ≡ body_of (fold (λ l (m : Mutation). cond (bytes_eq id m.id) (Some m) l) last ms)
+last_body last [] docs id e = e
+last_body last (m ∷ ms) docs id e =
+    last_body (cond (bytes_eq id m.id) (Some m) last) ms (with_mutation docs m) id
+      (get-with_mutation docs m id ∙ rw is_eq-slice_cmp (elim (bytes_eq id m.id) as (λ b. cond b m.body (map.get docs id) ≡ body_of (cond b (Some m) last)) [ true ↦ refl | false ↦ e ]))
+
+pub get-documents_at : (log : List Mutation) (v : List ℕ) (id : List ℕ) → map.get (documents_at log v) id ≡ body_of (current_of (filter (reaches v) log) id)
+unfolding documents_at
+get-documents_at log v id = last_body None (filter (reaches v) log) map.empty id (map.get-empty (slice_cmp nat_cmp) id)
+
+pub get-documents_at-high : (n : ℕ) (log : List Mutation) (id : List ℕ) → IsNumbered n log → 0 < n → map.get (documents_at log (high_of n log)) id ≡ body_of (current_of log id)
+get-documents_at-high n log id h some =
+    ap (λ d. map.get d id) (documents_at-high n log h some) ∙ last_body None log map.empty id (map.get-empty (slice_cmp nat_cmp) id)

@@ -11,6 +11,7 @@ use Rattle.std.proofs.lemmas.List.{get_or-set_same, get_or-set_other, get_or_pas
 use Rattle.std.proofs.Math.ListN.{length-set}
 use Rattle.std.proofs.Math.Seq.{drop-nil, take-nil}
 use Rattle.std.proofs.Math.Nat.{sub-zero}
+use Rattle.std.proofs.lemmas.Bool.{and_right}
 use Rattle.seq_vector.specs.Vectors.{vbucket_of, entry}
 use Rattle.vb_store.specs.declared.mutation.Mutation.{Mutation}
 use Rattle.vb_store.specs.Mutations.{of_vbucket, count_of, IsNext, IsNumberedBehind, IsNumbered, high_of, slice_of}
@@ -133,4 +134,21 @@ counted_within k a b (m ∷ ms) h =
 -- the mutations of a vBucket by their numbers are those at the places before them
 pub slice_of-places : (n : ℕ) (log : List Mutation) (vb after upto : ℕ) → IsNumbered n log → slice_of log vb after upto ≡ slice_range (of_vbucket vb log) after upto
 slice_of-places n log vb after upto h =
-    counted_within 0 after upto (of_vbucket vb log) (counted_vbucket n vb [] log h) ∙ rw (sub-zero, sub-zero) refl
+    counted_within 0 after upto (of_vbucket vb log) (counted_vbucket n vb [] log h) ∙ rw (sub-zero upto, sub-zero after) refl
+
+-- a slice up to a number that the list has is not changed by what comes later
+above_all : (n vb after upto : ℕ) (before ms : List Mutation) → IsNumberedBehind n before ms → upto ≤ count_of vb before → slice_of ms vb after upto ≡ []
+above_all n vb after upto before [] h le = refl
+above_all n vb after upto before (x ∷ xs) h le =
+    let rest = above_all n vb after upto (before ++ x ∷ []) xs h.1 (omega (arith, count_of-push vb before x)) in
+    elim (eqb_tells x.vb vb) [
+      | inr other ↦ rw other.0 rest
+      | inl here ↦
+        let out : leb x.seqno upto ≡ false = leb_from_lt x.seqno upto (omega (arith, h.0.number, ap (λ b. count_of b before) here.1)) in
+        rw (here.0, and_right (ltb after x.seqno) (leb x.seqno upto) out) rest
+    ]
+
+pub slice_of-append : (n : ℕ) (log more : List Mutation) (vb after upto : ℕ) → IsNumbered n (log ++ more) → upto ≤ count_of vb log → slice_of (log ++ more) vb after upto ≡ slice_of log vb after upto
+slice_of-append n log more vb after upto h le =
+    ap (filter (is_numbered_within after upto)) (of_vbucket-append vb log more) ∙ filter-append (is_numbered_within after upto) (of_vbucket vb log) (of_vbucket vb more)
+    ∙ ap (λ ys. slice_of log vb after upto ++ ys) (above_all n vb after upto log more (numbered_parts n [] log more h).1 le) ∙ append-nil _
