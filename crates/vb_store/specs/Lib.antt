@@ -1,0 +1,3 @@
+pub mod Mutations
+pub mod Documents
+pub mod Accepted
