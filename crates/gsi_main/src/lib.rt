@@ -1,0 +1,21 @@
+//! The top calls of the index service: from the bytes of a script to the bytes of its report.
+#![tactic(auto)]
+
+mod giving;
+mod mem_sink;
+mod mem_source;
+mod sink;
+mod source;
+mod std_sink;
+mod std_source;
+mod sure_sink;
+mod sure_source;
+
+pub use mem_sink::MemSink;
+pub use mem_source::MemSource;
+pub use sink::Sink;
+pub use source::Source;
+pub use std_sink::StdSink;
+pub use std_source::StdSource;
+pub use sure_sink::SureSink;
+pub use sure_source::SureSource;
