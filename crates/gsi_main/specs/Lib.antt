@@ -2,3 +2,5 @@ pub mod Faults
 pub mod MemSource
 pub mod MemSink
 pub mod Reading
+pub mod Writing
+pub mod Status

@@ -2,20 +2,29 @@
 #![tactic(auto)]
 
 mod giving;
+mod kind;
 mod mem_sink;
 mod mem_source;
+mod reading;
 mod sink;
 mod source;
+mod status;
 mod std_sink;
 mod std_source;
 mod sure_sink;
 mod sure_source;
+mod what;
+mod writing;
 
+pub use kind::Kind;
 pub use mem_sink::MemSink;
 pub use mem_source::MemSource;
+pub use reading::INPUT_LIMIT;
 pub use sink::Sink;
 pub use source::Source;
+pub use status::Status;
 pub use std_sink::StdSink;
 pub use std_source::StdSource;
 pub use sure_sink::SureSink;
 pub use sure_source::SureSource;
+pub use what::What;

@@ -71,7 +71,9 @@ impl Sink for MemSink {
     {
         self.calls = self.calls.saturating_add(1);
         let count = self.most.min(piece.len());
-        if self.fails.contains(&self.calls) || self.bytes.extend_from_slice(&piece[..count]).is_err() {
+        if self.fails.contains(&self.calls)
+            || self.bytes.extend_from_slice(&piece[..count]).is_err()
+        {
             self.faults = self.faults.saturating_add(1);
             return Err(Failed);
         }
