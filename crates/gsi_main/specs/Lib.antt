@@ -1,0 +1,6 @@
+pub mod Faults
+pub mod MemSource
+pub mod MemSink
+pub mod Reading
+pub mod Writing
+pub mod Status

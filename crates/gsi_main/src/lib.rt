@@ -1,0 +1,30 @@
+//! The top calls of the index service: from the bytes of a script to the bytes of its report.
+#![tactic(auto)]
+
+mod giving;
+mod kind;
+mod mem_sink;
+mod mem_source;
+mod reading;
+mod sink;
+mod source;
+mod status;
+mod std_sink;
+mod std_source;
+mod sure_sink;
+mod sure_source;
+mod what;
+mod writing;
+
+pub use kind::Kind;
+pub use mem_sink::MemSink;
+pub use mem_source::MemSource;
+pub use reading::INPUT_LIMIT;
+pub use sink::Sink;
+pub use source::Source;
+pub use status::Status;
+pub use std_sink::StdSink;
+pub use std_source::StdSource;
+pub use sure_sink::SureSink;
+pub use sure_source::SureSource;
+pub use what::What;
