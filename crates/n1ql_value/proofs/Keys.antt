@@ -1,9 +1,8 @@
 -- Going over the keys of rows, from a place on.
-use Rattle.std.proofs.Common.{◌≡◌, ◌<◌, ◌≤◌, ◌+◌, ◌&&◌, Bool, true, add-one, ℕ, zero, suc, max, List, [], ◌∷◌, length, get_or, drop, refl, sym, ap, ◌∙◌, arith}
+use Rattle.std.proofs.Common.{◌≡◌, ◌<◌, ◌+◌, ◌&&◌, Bool, true, add-one, ℕ, zero, suc, max, List, [], ◌∷◌, length, get_or, drop, refl, sym, ap, ◌∙◌, arith}
 use Rattle.std.specs.Ordering.{ordering_then}
 use Rattle.std.specs.declared.cmp.Ordering.TheVariants.{Equal}
 use Rattle.n1ql_value.specs.declared.datum.Datum.{Datum}
-use Rattle.n1ql_value.specs.declared.datum.Datum.TheVariants.{Missing}
 use Rattle.n1ql_value.specs.declared.range.Range.{Range}
 use Rattle.n1ql_value.specs.Collation.{value_cmp, key_at, keys_cmp}
 use Rattle.n1ql_value.specs.Ranges.{range_holds, span_holds}

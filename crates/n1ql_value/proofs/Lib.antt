@@ -1,3 +1,4 @@
 mod Slices
 mod Keys
 pub mod SortedListLaws
+mod Places

@@ -1,8 +1,8 @@
 -- The order of values and of rows: the collation of types, and within a type the order of its values.
-use Rattle.std.specs.Prelude.{ℕ, ◌==◌, List, [], ◌∷◌, length, slice_index_or}
+use Rattle.std.specs.Prelude.{ℕ, List, [], ◌∷◌, length, slice_index_or}
 use Rattle.std.specs.Ordering.{nat_cmp, int_cmp, ordering_then}
 use Rattle.std.specs.declared.cmp.Ordering.{Ordering}
-use Rattle.std.specs.declared.cmp.Ordering.TheVariants.{Less, Equal, Greater}
+use Rattle.std.specs.declared.cmp.Ordering.TheVariants.{Equal}
 use Rattle.std.specs.Cmp.Lexicographic.{slice_cmp}
 use Rattle.n1ql_value.specs.declared.datum.Datum.{Datum, fold-Datum, out-Datum}
 use Rattle.n1ql_value.specs.declared.datum.Datum.TheVariants as datum

@@ -1,16 +1,14 @@
 -- The order of values by cases on two values.
-use Rattle.std.specs.Prelude.{◌≡◌, ℕ, ℤ, Bool, List, [], ◌∷◌, map, length, refl}
-use Rattle.std.proofs.Common.{sym, ap, ◌∙◌}
+use Rattle.std.specs.Prelude.{◌≡◌, ℕ, List, [], ◌∷◌, map, refl}
+use Rattle.std.proofs.Common.{ap, ◌∙◌}
 use Rattle.std.proofs.lemmas.List.{length-map}
-use Rattle.std.specs.Ordering.{nat_cmp, int_cmp, ordering_then}
+use Rattle.std.specs.Ordering.{ordering_then}
 use Rattle.std.specs.declared.cmp.Ordering.{Ordering}
-use Rattle.std.specs.declared.cmp.Ordering.TheVariants.{Less, Equal, Greater}
 use Rattle.std.specs.Cmp.Lexicographic.{slice_cmp}
-use Rattle.n1ql_value.specs.declared.datum.Datum.{Datum, fold-Datum, fold-roll-Datum, out-Datum}
-use Rattle.n1ql_value.specs.declared.datum.Datum.TheVariants as datum
+use Rattle.n1ql_value.specs.declared.datum.Datum.{Datum, fold-Datum, out-Datum}
 use Rattle.n1ql_value.specs.declared.datum.Datum.TheOpen.{Datum-F}
 use Rattle.n1ql_value.specs.declared.datum.Datum.TheFolds.{map-Datum, fold_out-Datum}
-use Rattle.n1ql_value.specs.Layers.{class_of, number_of, bytes_of, elements_of, pairs_of}
+use Rattle.n1ql_value.specs.Layers.{elements_of, pairs_of}
 use Rattle.n1ql_value.specs.Collation.{pair_cmp, layer_cmp, compare_with, value_cmp}
 
 slice_cmp-map : {A B : Type 0} (f : A → B → Ordering) (xs : List A) (ys : List B) → slice_cmp (λ compare d. compare d) (map f xs) ys ≡ slice_cmp f xs ys

@@ -1,10 +1,10 @@
 -- The order of values is total, and values that it calls equal are the same.
 use Rattle.std.specs.List.{AllByRecursion}
-use Rattle.std.specs.Prelude.{◌<ℤ◌, ◌≡◌, ◌<◌, ◌≤◌, ℕ, ℤ, zero, suc, max, true, false, List, [], ◌∷◌, map, length, refl}
+use Rattle.std.specs.Prelude.{◌<ℤ◌, ◌≡◌, ◌<◌, ℕ, ℤ, zero, suc, max, true, false, List, [], ◌∷◌, map, length, refl}
 use Rattle.std.proofs.Common.{sym, ap, ◌∙◌, subst, arith}
 use Rattle.std.specs.Cmp.{IsTotalOrder}
 use Rattle.std.proofs.lemmas.Map.Lookups.{exact_unsigned}
-use Rattle.std.proofs.lemmas.Cmp.{nat_cmp_total, int_cmp_total, nat_list_cmp_total, on_total, then_total, lists_total, ranked, int_ranked}
+use Rattle.std.proofs.lemmas.Cmp.{nat_cmp_total, int_cmp_total, nat_list_cmp_total, on_total, then_total, lists_total, int_ranked}
 use Rattle.std.specs.Ordering.{nat_cmp, int_cmp, ordering_then, ordering_reverse, MatchOrdering}
 use Rattle.std.specs.declared.cmp.Ordering.{Ordering}
 use Rattle.std.specs.declared.cmp.Ordering.TheVariants.{Less, Equal, Greater}

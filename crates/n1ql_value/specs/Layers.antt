@@ -1,5 +1,5 @@
 -- One layer of a value: its class, and the parts that a value of its class has. A part that a value doesn't have is empty.
-use Rattle.std.specs.Prelude.{ℕ, ℤ, pos, Bool, true, false, List, []}
+use Rattle.std.specs.Prelude.{ℕ, ℤ, pos, true, false, List, []}
 use Rattle.n1ql_value.specs.declared.datum.Datum.TheOpen.{Datum-F}
 
 -- the order of the types: MISSING, NULL, FALSE, TRUE, number, string, array, object

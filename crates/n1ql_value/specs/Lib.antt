@@ -11,3 +11,4 @@ pub mod CollationOfValues
 pub mod Ranges
 pub mod RowLaws
 pub mod SortedLists
+pub mod Places

@@ -1,5 +1,5 @@
 -- What stands inside a value nests less deep than it.
-use Rattle.std.specs.Prelude.{◌≡◌, ◌≤◌, ℕ, suc, max, List, [], ◌∷◌, map, refl}
+use Rattle.std.specs.Prelude.{◌≤◌, ℕ, max, List, [], ◌∷◌, map}
 use Rattle.std.proofs.Common.{arith}
 use denote.Param.Weighed.{most}
 use Rattle.n1ql_value.specs.declared.text.Text.{Text as Bytes}

@@ -1,4 +1,12 @@
-ghost use Rattle.std.specs.Prelude.{◌≡◌, [], length, map, IfOk};
+ghost use Rattle.std.specs.Prelude.{◌≡◌, ◌≤◌, false, [], length, map, IfOk, OnOk, OnErr, IsTrue};
+ghost use Rattle.std.specs.Option.{option_map, option_copied};
+ghost use Rattle.std.specs.List.{AllWithin};
+ghost use Rattle.std.specs.Ordering.{nat_cmp, is_lt};
+ghost use Rattle.std.specs.declared.cmp.Ordering.TheVariants.{Less};
+ghost use Rattle.std.specs.Cmp.Lexicographic.{slice_cmp};
+ghost use Rattle.n1ql_value.specs.Names.{NamesGrow, under_name, with_pair};
+ghost use Rattle.n1ql_value.specs.Places.{IsPlace, HasName, LacksName};
+ghost use Rattle.n1ql_value.specs.Datum.{datum_of, pair_of};
 
 use crate::memory::Memory;
 use crate::text::Text;
@@ -30,7 +38,7 @@ impl Model for Pairs {
 
     ghost view = { λ a. map pair_of a.entries.items };
 
-    ghost invariant = { λ a. NamesGrow a.entries.items };
+    ghost invariant = { λ a. NamesGrow (map pair_of a.entries.items) };
 
     ghost size = { λ ps. largest (map (λ p. depth p.1) ps) };
 
@@ -40,8 +48,6 @@ impl Model for Pairs {
 }
 
 impl Pairs {
-    ghost use Rattle.n1ql_value.specs.Datum.{datum_of, pair_of};
-
     /// No pairs yet.
     pub fn new(alloc: Global) -> Pairs
         ensures { result ≡ [] }
@@ -56,6 +62,21 @@ impl Pairs {
         ensures { result ≡ length self.now }
     {
         self.entries.len()
+    }
+
+    /// The value under a name, None where no pair has it.
+    pub fn get(&self, name: &str) -> Option<&Value>
+        ensures { option_map datum_of (option_copied result) ≡ under_name name.now self.now }
+    {
+        found(&self.entries, name)
+    }
+
+    /// Puts a value under a name: adds the pair, or replaces the value that was there.
+    pub fn put(&mut self, name: Text, value: Value) -> Result<(), Memory>
+        ensures ok { OnOk result (self.new ≡ with_pair name (datum_of value) self.old) }
+        ensures err { OnErr result (self.new ≡ self.old) }
+    {
+        put_in(&mut self.entries, name, value)
     }
 
     /// The pairs, to go over.
@@ -76,4 +97,49 @@ impl Pairs {
         }
         Ok(Pairs { entries })
     }
+}
+
+/// The value under a name.
+fn found<'a>(entries: &'a [(Text, Value)], name: &str) -> Option<&'a Value>
+    requires { NamesGrow (map pair_of entries.now) }
+    ensures { option_map datum_of (option_copied result) ≡ under_name name.now (map pair_of entries.now) }
+{
+    let at = place_of(entries, name);
+    if has_name(entries, at, name) {
+        Some(&entries[at].1)
+    } else {
+        None
+    }
+}
+
+/// Puts a pair in its place.
+fn put_in(entries: &mut Vec<(Text, Value)>, name: Text, value: Value) -> Result<(), Memory>
+    requires { NamesGrow (map pair_of entries.old.items) }
+    ensures ok { OnOk result (map pair_of entries.new.items ≡ with_pair name (datum_of value) (map pair_of entries.old.items)) }
+    ensures err { OnErr result (entries.new.items ≡ entries.old.items) }
+    ensures grow { NamesGrow (map pair_of entries.new.items) }
+{
+    let at = place_of(entries, name.as_str());
+    if has_name(entries, at, name.as_str()) {
+        entries[at] = (name, value);
+    } else {
+        entries.insert(at, (name, value))?;
+    }
+    Ok(())
+}
+
+/// Whether the pair at a place has the name.
+fn has_name(entries: &[(Text, Value)], at: usize, name: &str) -> bool
+    ensures same { IsTrue result → HasName entries.now at name.now }
+    ensures other { result ≡ false → LacksName entries.now at name.now }
+{
+    at < entries.len() && entries[at].0.as_str() == name
+}
+
+/// How many of the pairs have names below this one: the place of the name.
+fn place_of(entries: &[(Text, Value)], name: &str) -> usize
+    requires { NamesGrow (map pair_of entries.now) }
+    ensures { IsPlace entries.now name.now result }
+{
+    entries.partition_point(|entry| entry.0.as_str() < name)
 }

@@ -1,4 +1,4 @@
-use Rattle.std.proofs.Common.{◌≡◌, ◌+◌, ◌*◌, ℕ, suc, map, length, get_or, min, arith, ap, ◌∙◌, sym}
+use Rattle.std.proofs.Common.{◌≡◌, suc, map, get_or, arith, ap, ◌∙◌}
 use Rattle.std.proofs.lemmas.List.{length-map}
 use Rattle.n1ql_value.specs.declared.value.Value.{Value}
 use Rattle.n1ql_value.specs.Datum.{datum_of, pair_of}
