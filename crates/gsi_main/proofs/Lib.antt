@@ -1,1 +1,4 @@
 pub mod Transfers
+pub mod LineLemmas
+pub mod ScriptLemmas
+pub mod WordLemmas

@@ -4,3 +4,7 @@ pub mod MemSink
 pub mod Reading
 pub mod Writing
 pub mod Status
+pub mod Lines
+pub mod Answer
+pub mod Scripts
+pub mod Replay

@@ -3,9 +3,13 @@
 
 mod giving;
 mod kind;
+mod lines;
 mod mem_sink;
 mod mem_source;
 mod reading;
+mod refusal;
+mod replay;
+mod script;
 mod sink;
 mod source;
 mod status;
@@ -20,6 +24,7 @@ pub use kind::Kind;
 pub use mem_sink::MemSink;
 pub use mem_source::MemSource;
 pub use reading::INPUT_LIMIT;
+pub use replay::gsi_replay;
 pub use sink::Sink;
 pub use source::Source;
 pub use status::Status;

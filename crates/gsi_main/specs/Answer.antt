@@ -1,0 +1,24 @@
+-- The answer to an input.
+use Rattle.std.specs.Prelude.{◌≡◌, ℕ, List, ⊤, if◌then◌else◌, nat_le, length, Result, Ok, Err, Vec}
+use Rattle.std.specs.declared.alloc.Global.{Global}
+use Rattle.gsi_main.specs.declared.what.What.TheVariants.{Input}
+use Rattle.gsi_main.specs.declared.reading.TheConstants.{INPUT_LIMIT}
+use Rattle.gsi_main.specs.declared.refusal.Refusal.{Refusal}
+use Rattle.gsi_main.specs.declared.refusal.Refusal.TheVariants.{BadLine, TooLarge, Memory}
+use Rattle.gsi_main.specs.Lines.{lines_of, numbered_after}
+use Rattle.gsi_main.specs.Scripts.{Answer, report, bad_line, too_large, answer_to}
+
+-- the answer to an input that is no longer than the limit
+unfoldable pub answer_of : List ℕ → Answer
+answer_of input = answer_to (numbered_after 0 (lines_of input))
+
+-- the answer to an input
+abbrev pub for_input : List ℕ → Answer
+for_input input = if nat_le (length input) INPUT_LIMIT then answer_of input else too_large Input INPUT_LIMIT
+
+-- the function gives the answer, or memory ran out
+abbrev pub Gives : Answer → Result (Vec ℕ Global) Refusal → Type 0
+Gives answer (Ok text) = answer ≡ report text.items
+Gives answer (Err (BadLine line kind)) = answer ≡ bad_line line kind
+Gives answer (Err (TooLarge what limit)) = answer ≡ too_large what limit
+Gives answer (Err Memory) = ⊤

@@ -1,0 +1,73 @@
+ghost use Rattle.std.specs.Prelude.{◌≡◌, ◌<◌, ◌↔◌, IfSome, IsTrue};
+ghost use Rattle.gsi_main.specs.Answer.{for_input};
+ghost use Rattle.gsi_main.specs.Faults.{Rose};
+ghost use Rattle.gsi_main.specs.Replay.{IsReplay, IsFor, Replayed, PartlyReplayed};
+
+use crate::reading::{INPUT_LIMIT, Unread, read_input};
+use crate::refusal::Refusal;
+use crate::script::answer_for;
+use crate::sink::Sink;
+use crate::source::Source;
+use crate::status::Status;
+use crate::what::What;
+use crate::writing::write_report;
+use n1ql_value::{Failed, Text};
+use std::alloc::Global;
+
+/// Reads a script from the source to its end, replays it, and writes the report of that to the sink. The words are
+/// right where they are the one word `replay`. The report is made before the first write.
+pub fn gsi_replay<S: Source, K: Sink>(
+    alloc: Global,
+    words: &[Text],
+    source: &mut S,
+    sink: &mut K,
+) -> Status
+    ensures done { result ≡ Status.Done →
+        Replayed (S.left source.old) (S.left source.new) (K.held sink.old) (K.held sink.new) }
+    ensures exact { IsReplay words.now → IfSome (S.left source.old) (λ input. IsFor result (for_input input)) }
+    ensures words { (result ≡ Status.Words) ↔ ¬ IsReplay words.now }
+    ensures read_fault { result ≡ Status.ReadFault → Rose (S.faults source.old) (S.faults source.new) }
+    ensures read_grew { S.faults source.old < S.faults source.new → result ≡ Status.ReadFault }
+    ensures write_fault { result ≡ Status.WriteFault → Rose (K.faults sink.old) (K.faults sink.new) }
+    ensures write_grew { K.faults sink.old < K.faults sink.new → result ≡ Status.WriteFault }
+
+    // After a failed write a front of the report stands in the sink; after all but that and Done, nothing was written.
+    ensures part { result ≡ Status.WriteFault →
+        PartlyReplayed (S.left source.old) (K.held sink.old) (K.held sink.new) }
+    ensures untouched { result ≡ Status.Words → source.new ≡ source.old }
+    ensures unwritten { ¬ (result ≡ Status.Done) → ¬ (result ≡ Status.WriteFault) → sink.new ≡ sink.old }
+{
+    if !is_replay(words) {
+        return Status::Words;
+    }
+    let input = match read_input(alloc, source) {
+        Ok(input) => input,
+        Err(Unread::Fault) => return Status::ReadFault,
+        Err(Unread::Memory) => return Status::Memory,
+        Err(Unread::TooLarge) => {
+            return Status::TooLarge {
+                what: What::Input,
+                limit: INPUT_LIMIT as u64,
+            };
+        }
+    };
+    let report = match answer_for(alloc, input.as_slice()) {
+        Ok(report) => report,
+        Err(Refusal::BadLine { line, kind }) => return Status::Script { line, kind },
+        Err(Refusal::TooLarge { what, limit }) => return Status::TooLarge { what, limit },
+        Err(Refusal::Memory) => return Status::Memory,
+    };
+    match write_report(report.as_slice(), sink) {
+        Ok(()) => Status::Done,
+        Err(Failed) => Status::WriteFault,
+    }
+}
+
+fn is_replay(words: &[Text]) -> bool
+    ensures { IsTrue result ↔ IsReplay words.now }
+{
+    match words {
+        [word] => word.as_str() == "replay",
+        _ => false,
+    }
+}
