@@ -50,9 +50,9 @@ swapped false b x y z apart = refl
 pub with_mutation-swap : (docs : Documents) (x y : Mutation) → x.id ≢ y.id → with_mutation (with_mutation docs x) y ≡ with_mutation (with_mutation docs y) x
 with_mutation-swap docs x y apart =
     map.same_map nat_list_cmp_total (map.slice_cmp-IsAntisymmetric map.nat_cmp-IsAntisymmetric) _ _ (λ q.
-      get-with_mutation (with_mutation docs x) y q ∙ ap (cond (is_same q y.id) y.body) (get-with_mutation docs x q)
-      ∙ swapped (is_same q y.id) (is_same q x.id) _ _ _ (λ a b. apart (sym (same_ids q x.id b) ∙ same_ids q y.id a))
-      ∙ sym (get-with_mutation (with_mutation docs y) x q ∙ ap (cond (is_same q x.id) x.body) (get-with_mutation docs y q)))
+    get-with_mutation (with_mutation docs x) y q ∙ ap (cond (is_same q y.id) y.body) (get-with_mutation docs x q)
+    ∙ swapped (is_same q y.id) (is_same q x.id) _ _ _ (λ a b. apart (sym (same_ids q x.id b) ∙ same_ids q y.id a))
+    ∙ sym (get-with_mutation (with_mutation docs y) x q ∙ ap (cond (is_same q x.id) x.body) (get-with_mutation docs y q)))
 
 -- a change commutes with those of other ids after it, where the vector had not come as far as it
 pub with_mutations-after : (n : ℕ) (v : List ℕ) (m : Mutation) (before ms : List Mutation) (docs : Documents) → IsNumberedBehind n before ms → m.vb ≡ vbucket_of m.id n → get_or v m.vb 0 ≤ count_of m.vb before → with_mutations (with_mutation docs m) (filter (reaches v) ms) ≡ with_mutation (with_mutations docs (filter (reaches v) ms)) m
@@ -60,14 +60,14 @@ with_mutations-after n v m before [] docs h bucket low = refl
 with_mutations-after n v m before (x ∷ xs) docs h bucket low =
     let later = filter (reaches v) xs in
     let rest : (d : Documents) → with_mutations (with_mutation d m) later ≡ with_mutation (with_mutations d later) m =
-      λ d. with_mutations-after n v m (before ++ x ∷ []) xs d h.1 bucket (omega (arith, count_of-push m.vb before x)) in
+    λ d. with_mutations-after n v m (before ++ x ∷ []) xs d h.1 bucket (omega (arith, count_of-push m.vb before x)) in
     let P : Bool → Type 0 = λ b. with_mutations (with_mutation docs m) (cond b (x ∷ later) later) ≡ with_mutation (with_mutations docs (cond b (x ∷ later) later)) m in
     elim (leb_tells x.seqno (get_or v x.vb 0)) [
       | inl w ↦
-        let apart : m.id ≢ x.id = λ e.
+          let apart : m.id ≢ x.id = λ e.
           let same : x.vb ≡ m.vb = h.0.bucket ∙ ap (λ id. vbucket_of id n) (sym e) ∙ sym bucket in
           omega (arith, w.1, h.0.number, low, ap (λ b. count_of b before) same, ap (λ b. get_or v b 0) same) in
-        subst P (sym w.0) (ap (λ d. with_mutations d later) (with_mutation-swap docs m x apart) ∙ rest (with_mutation docs x))
+          subst P (sym w.0) (ap (λ d. with_mutations d later) (with_mutation-swap docs m x apart) ∙ rest (with_mutation docs x))
       | inr w ↦ subst P (sym w.0) (rest docs)
     ]
 
@@ -77,36 +77,36 @@ with_mutations-slice n v vb upto before [] docs h within le = refl
 with_mutations-slice n v vb upto before (x ∷ xs) docs h within le =
     let a = get_or v vb 0 in
     let rest : (d : Documents) → with_mutations d (filter (reaches (set v vb upto)) xs) ≡ with_mutations (with_mutations d (filter (reaches v) xs)) (slice_of xs vb a upto) =
-      λ d. with_mutations-slice n v vb upto (before ++ x ∷ []) xs d h.1 within le in
+    λ d. with_mutations-slice n v vb upto (before ++ x ∷ []) xs d h.1 within le in
     elim (eqb_tells x.vb vb) [
       | inr other ↦
-        let kept : get_or (set v vb upto) x.vb 0 ≡ get_or v x.vb 0 = get_or-set_other v vb x.vb upto 0 other.1 in
-        elim (leb_tells x.seqno (get_or v x.vb 0)) [
-          | inl had ↦ rw (other.0, kept, had.0) (rest (with_mutation docs x))
-          | inr new ↦ rw (other.0, kept, new.0) (rest docs)
-        ]
+          let kept : get_or (set v vb upto) x.vb 0 ≡ get_or v x.vb 0 = get_or-set_other v vb x.vb upto 0 other.1 in
+          elim (leb_tells x.seqno (get_or v x.vb 0)) [
+            | inl had ↦ rw (other.0, kept, had.0) (rest (with_mutation docs x))
+            | inr new ↦ rw (other.0, kept, new.0) (rest docs)
+          ]
       | inl here ↦
-        let raised : get_or (set v vb upto) x.vb 0 ≡ upto = get_or-set_at v vb x.vb upto 0 here.1 within in
-        let old : get_or v x.vb 0 ≡ a = ap (λ b. get_or v b 0) here.1 in
-        elim (cases_lt a x.seqno) [
-          | inr had ↦
-            let e : leb x.seqno a ≡ true = le-leb x.seqno a had in
-            let e' : leb x.seqno upto ≡ true = le-leb x.seqno upto (omega arith) in
-            let out : ltb a x.seqno ≡ false = ltb_from_le a x.seqno had in
-            rw (here.0, raised, old, e, e', out) (rest (with_mutation docs x))
-          | inl above ↦
-            let e : leb x.seqno a ≡ false = leb_from_lt x.seqno a above in
-            let after : ltb a x.seqno ≡ true = lt-ltb a x.seqno above in
-            elim (cases_lt upto x.seqno) [
-              | inr reached ↦
-                let e' : leb x.seqno upto ≡ true = le-leb x.seqno upto reached in
-                let moved = with_mutations-after n v x (before ++ x ∷ []) xs docs h.1 h.0.bucket (omega (arith, count_of-push x.vb before x, h.0.number, old)) in
-                rw (here.0, raised, old, e, e', after) (rest (with_mutation docs x) ∙ ap (λ d. with_mutations d (slice_of xs vb a upto)) moved)
-              | inl past ↦
-                let e' : leb x.seqno upto ≡ false = leb_from_lt x.seqno upto past in
-                rw (here.0, raised, old, e, e', after) (rest docs)
-            ]
-        ]
+          let raised : get_or (set v vb upto) x.vb 0 ≡ upto = get_or-set_at v vb x.vb upto 0 here.1 within in
+          let old : get_or v x.vb 0 ≡ a = ap (λ b. get_or v b 0) here.1 in
+          elim (cases_lt a x.seqno) [
+            | inr had ↦
+                let e : leb x.seqno a ≡ true = le-leb x.seqno a had in
+                let e' : leb x.seqno upto ≡ true = le-leb x.seqno upto (omega arith) in
+                let out : ltb a x.seqno ≡ false = ltb_from_le a x.seqno had in
+                rw (here.0, raised, old, e, e', out) (rest (with_mutation docs x))
+            | inl above ↦
+                let e : leb x.seqno a ≡ false = leb_from_lt x.seqno a above in
+                let after : ltb a x.seqno ≡ true = lt-ltb a x.seqno above in
+                elim (cases_lt upto x.seqno) [
+                  | inr reached ↦
+                      let e' : leb x.seqno upto ≡ true = le-leb x.seqno upto reached in
+                      let moved = with_mutations-after n v x (before ++ x ∷ []) xs docs h.1 h.0.bucket (omega (arith, count_of-push x.vb before x, h.0.number, old)) in
+                      rw (here.0, raised, old, e, e', after) (rest (with_mutation docs x) ∙ ap (λ d. with_mutations d (slice_of xs vb a upto)) moved)
+                  | inl past ↦
+                      let e' : leb x.seqno upto ≡ false = leb_from_lt x.seqno upto past in
+                      rw (here.0, raised, old, e, e', after) (rest docs)
+                ]
+          ]
     ]
 
 -- documents at High
@@ -115,7 +115,7 @@ all_reached n v before [] h high some = refl
 all_reached n v before (x ∷ xs) h high some =
     let bucket : x.vb < n = omega (arith, h.0.bucket) in
     let e : leb x.seqno (get_or v x.vb 0) ≡ true = le-leb x.seqno (get_or v x.vb 0)
-      (omega (arith, high x.vb bucket, h.0.number, count_of-append x.vb before (x ∷ xs), count_of-cons x.vb x xs, cond-true {A = ℕ} (eqb x.vb x.vb) 1 0 (eq-eqb x.vb x.vb refl))) in
+    (omega (arith, high x.vb bucket, h.0.number, count_of-append x.vb before (x ∷ xs), count_of-cons x.vb x xs, cond-true {A = ℕ} (eqb x.vb x.vb) 1 0 (eq-eqb x.vb x.vb refl))) in
     rw e (ap (λ ys. x ∷ ys) (all_reached n v (before ++ x ∷ []) xs h.1 (λ vb lt. subst (λ (l : List Mutation). count_of vb l ≤ get_or v vb 0) (sym (append_assoc before (x ∷ []) xs)) (high vb lt)) some))
 
 pub none_reached : (n : ℕ) (v : List ℕ) (before ms : List Mutation) → IsNumberedBehind n before ms → ((vb : ℕ) → get_or v vb 0 ≤ count_of vb before) → filter (reaches v) ms ≡ []
@@ -132,10 +132,10 @@ pub documents_at-append : (n : ℕ) (log more : List Mutation) (v : List ℕ) �
 unfolding documents_at
 documents_at-append n log more v h covered =
     let none : filter (reaches v) more ≡ [] = none_reached n v log more (numbered_parts n [] log more h).1
-      (λ vb. elim (cases_lt vb (length v)) [
-        | inl lt ↦ omega (arith, covered vb lt, entry-high_of-le n log vb)
-        | inr ge ↦ omega (arith, get_or_past v vb 0 ge)
-      ]) in
+    (λ vb. elim (cases_lt vb (length v)) [
+      | inl lt ↦ omega (arith, covered vb lt, entry-high_of-le n log vb)
+      | inr ge ↦ omega (arith, get_or_past v vb 0 ge)
+    ]) in
     ap (with_mutations map.empty) (filter-append (reaches v) log more ∙ ap (λ ys. filter (reaches v) log ++ ys) none ∙ append-nil _)
 
 pub documents_at-slice : (n : ℕ) (log : List Mutation) (v : List ℕ) (vb upto : ℕ) → IsNumbered n log → vb < length v → get_or v vb 0 ≤ upto → documents_at log (set v vb upto) ≡ with_mutations (documents_at log v) (slice_of log vb (get_or v vb 0) upto)
@@ -162,9 +162,9 @@ pub documents_at-next : (n : ℕ) (log : List Mutation) (v : List ℕ) (m : Muta
 documents_at-next n log v m h has within next =
     let i = has.0 in
     let whole : take i log ++ m ∷ drop (suc i) log ≡ log =
-      ap (λ ys. take i log ++ ys) (sym (drop-cons log i m has.1 ∙ ap (λ y. y ∷ drop (suc i) log) has.2)) ∙ take-append-drop i log in
+    ap (λ ys. take i log ++ ys) (sym (drop-cons log i m has.1 ∙ ap (λ y. y ∷ drop (suc i) log) has.2)) ∙ take-append-drop i log in
     let one : slice_of log m.vb (get_or v m.vb 0) m.seqno ≡ m ∷ [] =
-      subst (λ l. slice_of l m.vb (get_or v m.vb 0) m.seqno ≡ m ∷ []) whole (slice_of-one n (take i log) (drop (suc i) log) m (get_or v m.vb 0) (subst (IsNumbered n) (sym whole) h) next) in
+    subst (λ l. slice_of l m.vb (get_or v m.vb 0) m.seqno ≡ m ∷ []) whole (slice_of-one n (take i log) (drop (suc i) log) m (get_or v m.vb 0) (subst (IsNumbered n) (sym whole) h) next) in
     documents_at-slice n log v m.vb m.seqno h within (omega arith) ∙ ap (with_mutations (documents_at log v)) one
 
 pub documents_at-push : (n : ℕ) (log : List Mutation) (m : Mutation) → IsNumbered n (log ++ m ∷ []) → 0 < n → documents_at (log ++ m ∷ []) (high_of n (log ++ m ∷ [])) ≡ with_mutation (documents_at log (high_of n log)) m
@@ -177,7 +177,7 @@ last_body : (last : Option Mutation) (ms : List Mutation) (docs : Documents) (id
 last_body last [] docs id e = e
 last_body last (m ∷ ms) docs id e =
     last_body (cond (bytes_eq id m.id) (Some m) last) ms (with_mutation docs m) id
-      (get-with_mutation docs m id ∙ rw is_eq-slice_cmp (elim (bytes_eq id m.id) as (λ b. cond b m.body (map.get docs id) ≡ body_of (cond b (Some m) last)) [ true ↦ refl | false ↦ e ]))
+    (get-with_mutation docs m id ∙ rw is_eq-slice_cmp (elim (bytes_eq id m.id) as (λ b. cond b m.body (map.get docs id) ≡ body_of (cond b (Some m) last)) [ true ↦ refl | false ↦ e ]))
 
 pub get-documents_at : (log : List Mutation) (v : List ℕ) (id : List ℕ) → map.get (documents_at log v) id ≡ body_of (current_of (filter (reaches v) log) id)
 unfolding documents_at

@@ -1,2 +1,4 @@
 pub mod Numbering
 pub mod Changes
+pub mod Keeping
+pub mod ByVbucketLemmas

@@ -66,14 +66,28 @@ pub high_of-push : (n : ℕ) (log : List Mutation) (m : Mutation) → m.seqno �
 high_of-push n log m e =
     let long = λ (l : List Mutation). length-high_of n l in
     same_number_lists (high_of n (log ++ m ∷ [])) (set (high_of n log) m.vb m.seqno)
-      (omega (arith, long (log ++ m ∷ []), long log, length-set (high_of n log) m.vb m.seqno))
-      (λ k h. let within : k < n = omega (arith, long (log ++ m ∷ [])) in
-        elim (eqb_tells m.vb k) [
-          | inl w ↦ omega (arith, entry-high_of n (log ++ m ∷ []) k within, count_of-push k log m, cond-true {A = ℕ} (eqb m.vb k) 1 0 w.0, w.1, e,
-              ap (λ b. count_of b log) w.1, get_or-set_at (high_of n log) m.vb k m.seqno 0 (sym w.1) (omega (arith, long log)))
-          | inr w ↦ let apart : k ≢ m.vb = λ e. w.1 (sym e) in omega (arith, entry-high_of n (log ++ m ∷ []) k within, entry-high_of n log k within, count_of-push k log m, cond-false {A = ℕ} (eqb m.vb k) 1 0 w.0,
-              get_or-set_other (high_of n log) m.vb k m.seqno 0 apart)
-        ])
+    (omega (arith, long (log ++ m ∷ []), long log, length-set (high_of n log) m.vb m.seqno))
+    (λ k h. let within : k < n = omega (arith, long (log ++ m ∷ [])) in
+    elim (eqb_tells m.vb k) [
+      | inl w ↦ omega (
+        arith,
+        entry-high_of n (log ++ m ∷ []) k within,
+        count_of-push k log m,
+        cond-true {A = ℕ} (eqb m.vb k) 1 0 w.0,
+        w.1,
+        e,
+        ap (λ b. count_of b log) w.1,
+        get_or-set_at (high_of n log) m.vb k m.seqno 0 (sym w.1) (omega (arith, long log)),
+      )
+      | inr w ↦ let apart : k ≢ m.vb = λ e. w.1 (sym e) in omega (
+        arith,
+        entry-high_of n (log ++ m ∷ []) k within,
+        entry-high_of n log k within,
+        count_of-push k log m,
+        cond-false {A = ℕ} (eqb m.vb k) 1 0 w.0,
+        get_or-set_other (high_of n log) m.vb k m.seqno 0 apart,
+      )
+    ])
 
 pub leb_from_lt : (a b : ℕ) → b < a → leb a b ≡ false
 leb_from_lt a b h = elim (leb_tells a b) [ inl w ↦ absurd (omega (arith, w.1)) | inr w ↦ w.0 ]
@@ -93,8 +107,10 @@ counted_vbucket n vb before (m ∷ ms) h =
     let P : Bool → Type 0 = λ b. IsCountedFrom (count_of vb before) (cond b (m ∷ of_vbucket vb ms) (of_vbucket vb ms)) in
     let push = count_of-push vb before m in
     elim (eqb_tells m.vb vb) [
-      | inl w ↦ subst P (sym w.0) (h.0.number ∙ ap (λ b. count_of b before + 1) w.1,
-          subst (λ k. IsCountedFrom k (of_vbucket vb ms)) (push ∙ ap (λ b. count_of vb before + cond b 1 0) w.0) rest)
+      | inl w ↦ subst P (sym w.0) (
+        h.0.number ∙ ap (λ b. count_of b before + 1) w.1,
+        subst (λ k. IsCountedFrom k (of_vbucket vb ms)) (push ∙ ap (λ b. count_of vb before + cond b 1 0) w.0) rest,
+      )
       | inr w ↦ subst P (sym w.0) (subst (λ k. IsCountedFrom k (of_vbucket vb ms)) (push ∙ ap (λ b. count_of vb before + cond b 1 0) w.0 ∙ omega arith) rest)
     ]
 
@@ -109,26 +125,26 @@ counted_within k a b (m ∷ ms) h =
     let rest = counted_within (k + 1) a b ms h.1 in
     elim (cases_lt k a) [
       | inl below ↦
-        let out : ltb a m.seqno ≡ false = ltb_from_le a m.seqno (omega (arith, h.0)) in
-        let i : a - k ≡ suc (a - (k + 1)) = omega arith in
-        let j : b - k - (a - k) ≡ b - (k + 1) - (a - (k + 1)) = omega arith in
-        rw (out, j, i) rest
+          let out : ltb a m.seqno ≡ false = ltb_from_le a m.seqno (omega (arith, h.0)) in
+          let i : a - k ≡ suc (a - (k + 1)) = omega arith in
+          let j : b - k - (a - k) ≡ b - (k + 1) - (a - (k + 1)) = omega arith in
+          rw (out, j, i) rest
       | inr reached ↦
-        let in_first : ltb a m.seqno ≡ true = lt-ltb a m.seqno (omega (arith, h.0)) in
-        let i : a - k ≡ 0 = omega arith in
-        let i' : a - (k + 1) ≡ 0 = omega arith in
-        elim (cases_lt k b) [
-          | inl within ↦
-            let in_second : leb m.seqno b ≡ true = le-leb m.seqno b (omega (arith, h.0)) in
-            let j : b - k ≡ suc (b - (k + 1)) = omega arith in
-            let tail : later ≡ take (b - (k + 1)) ms = rest ∙ rw (i', sub-zero) refl in
-            rw (in_first, in_second, i, j, sub-zero) (ap (λ xs. m ∷ xs) tail)
-          | inr past ↦
-            let out : leb m.seqno b ≡ false = leb_from_lt m.seqno b (omega (arith, h.0)) in
-            let j : b - k ≡ 0 = omega arith in
-            let j' : b - (k + 1) ≡ 0 = omega arith in
-            rw (in_first, out, i, j) (rest ∙ rw (i', j') refl)
-        ]
+          let in_first : ltb a m.seqno ≡ true = lt-ltb a m.seqno (omega (arith, h.0)) in
+          let i : a - k ≡ 0 = omega arith in
+          let i' : a - (k + 1) ≡ 0 = omega arith in
+          elim (cases_lt k b) [
+            | inl within ↦
+                let in_second : leb m.seqno b ≡ true = le-leb m.seqno b (omega (arith, h.0)) in
+                let j : b - k ≡ suc (b - (k + 1)) = omega arith in
+                let tail : later ≡ take (b - (k + 1)) ms = rest ∙ rw (i', sub-zero) refl in
+                rw (in_first, in_second, i, j, sub-zero) (ap (λ xs. m ∷ xs) tail)
+            | inr past ↦
+                let out : leb m.seqno b ≡ false = leb_from_lt m.seqno b (omega (arith, h.0)) in
+                let j : b - k ≡ 0 = omega arith in
+                let j' : b - (k + 1) ≡ 0 = omega arith in
+                rw (in_first, out, i, j) (rest ∙ rw (i', j') refl)
+          ]
     ]
 
 -- the mutations of a vBucket by their numbers are those at the places before them
@@ -144,8 +160,8 @@ above_all n vb after upto before (x ∷ xs) h le =
     elim (eqb_tells x.vb vb) [
       | inr other ↦ rw other.0 rest
       | inl here ↦
-        let out : leb x.seqno upto ≡ false = leb_from_lt x.seqno upto (omega (arith, h.0.number, ap (λ b. count_of b before) here.1)) in
-        rw (here.0, and_right (ltb after x.seqno) (leb x.seqno upto) out) rest
+          let out : leb x.seqno upto ≡ false = leb_from_lt x.seqno upto (omega (arith, h.0.number, ap (λ b. count_of b before) here.1)) in
+          rw (here.0, and_right (ltb after x.seqno) (leb x.seqno upto) out) rest
     ]
 
 pub slice_of-append : (n : ℕ) (log more : List Mutation) (vb after upto : ℕ) → IsNumbered n (log ++ more) → upto ≤ count_of vb log → slice_of (log ++ more) vb after upto ≡ slice_of log vb after upto

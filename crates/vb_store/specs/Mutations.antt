@@ -2,6 +2,7 @@
 use Rattle.std.specs.Prelude.{◌≡◌, ℕ, ◌+◌, List, [], ◌∷◌, ◌++◌, Option, Some, None, length, map, ◌==◌, ◌&&◌, nat_lt, nat_le, if◌then◌else◌, ⊤}
 use Rattle.std.specs.List.{filter, fold, range_with_len}
 use Rattle.std.specs.Str.{bytes_eq}
+use Rattle.n1ql_value.specs.declared.value.Value.{Value}
 use Rattle.seq_vector.specs.Vectors.{vbucket_of}
 use Rattle.vb_store.specs.declared.mutation.Mutation.{Mutation}
 
@@ -38,3 +39,9 @@ slice_of log vb after upto = filter (λ m. nat_lt after m.seqno && nat_le m.seqn
 -- the last mutation of an id
 abbrev pub current_of : List Mutation → List ℕ → Option Mutation
 current_of log id = fold (λ last m. if bytes_eq id m.id then Some m else last) None log
+
+-- the mutation of a change of the id that comes next
+abbrev pub next_of : ℕ → List Mutation → List ℕ → Option Value → Mutation
+next_of n log id body =
+    let vb = vbucket_of id n in
+    record { vb = vb; seqno = count_of vb log + 1; id = id; body = body }

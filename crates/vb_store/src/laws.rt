@@ -15,16 +15,14 @@ pub fn growth()
         → IsNumbered n (log ++ more) → upto ≤ count_of vb log
         → slice_of (log ++ more) vb after upto ≡ slice_of log vb after upto }
     ensures front { (n : ℕ) (log more : List Mutation) → IsNumbered n (log ++ more) → IsNumbered n log }
-{
-}
+{}
 
 /// Law of the next mutation: one more number of a vBucket is the one change of its mutation.
 pub fn next_mutation()
     ensures { (n : ℕ) (log : List Mutation) (v : List ℕ) (m : Mutation)
         → IsNumbered n log → Contains log m → m.vb < length v → entry v m.vb + 1 ≡ m.seqno
         → documents_at log (slice_set v m.vb m.seqno) ≡ with_mutation (documents_at log v) m }
-{
-}
+{}
 
 /// Law of a slice: more numbers of a vBucket are the changes of its mutations, in order.
 pub fn next_slice()
@@ -33,8 +31,7 @@ pub fn next_slice()
         → documents_at log (slice_set v vb upto) ≡ with_mutations (documents_at log v) (slice_of log vb (entry v vb) upto) }
     ensures places { (n : ℕ) (log : List Mutation) (vb after upto : ℕ)
         → IsNumbered n log → slice_of log vb after upto ≡ slice_range (of_vbucket vb log) after upto }
-{
-}
+{}
 
 /// Law of an append: at the newest numbers it is the one change of its mutation.
 pub fn append_changes()
@@ -45,15 +42,13 @@ pub fn append_changes()
         → IsNumbered n log → IsNext n log m → IsNumbered n (log ++ m ∷ []) }
     ensures high { (n : ℕ) (log : List Mutation) (m : Mutation)
         → IsNext n log m → high_of n (log ++ m ∷ []) ≡ slice_set (high_of n log) m.vb m.seqno }
-{
-}
+{}
 
 /// Law of the newest numbers: there are n, and each is the count of its vBucket's mutations.
 pub fn high_counts()
     ensures size { (n : ℕ) (log : List Mutation) → length (high_of n log) ≡ n }
     ensures entries { (n : ℕ) (log : List Mutation) (vb : ℕ) → vb < n → entry (high_of n log) vb ≡ count_of vb log }
-{
-}
+{}
 
 /// Law of the last mutation: it is what leaves the document of its id.
 pub fn last_mutation_counts()
@@ -62,5 +57,4 @@ pub fn last_mutation_counts()
     ensures at_high { (n : ℕ) (log : List Mutation) (id : List ℕ)
         → IsNumbered n log → 0 < n
         → get (documents_at log (high_of n log)) id ≡ body_of (current_of log id) }
-{
-}
+{}
