@@ -1,0 +1,1 @@
+//! Laws of histories: each is the contract of a function that does nothing.
