@@ -36,7 +36,7 @@ is_eq-ordering_reverse Less = refl
 is_eq-ordering_reverse Equal = refl
 is_eq-ordering_reverse Greater = refl
 
-equal_of : (r : Ordering) → is_eq r ≡ true → r ≡ Equal
+pub equal_of : (r : Ordering) → is_eq r ≡ true → r ≡ Equal
 equal_of Less e = cc
 equal_of Equal e = refl
 equal_of Greater e = cc
@@ -175,7 +175,7 @@ module _ {X : Type 0} (R : X → X → Ordering) where
         | false ↦ λ h. all 0 d (omega arith)
       ]
 
-  without_one-absent : (x : X) (xs : List X) → AllWithin (λ y. is_eq (R x y) ≡ false) xs 0 (length xs) → without_one R x xs ≡ xs
+  pub without_one-absent : (x : X) (xs : List X) → AllWithin (λ y. is_eq (R x y) ≡ false) xs 0 (length xs) → without_one R x xs ≡ xs
   without_one-absent x [] none = refl
   without_one-absent x (y ∷ ys) none =
       let here : is_eq (R x y) ≡ false = none 0 y (omega arith) (omega arith) in
