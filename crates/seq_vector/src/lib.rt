@@ -3,11 +3,10 @@
 //! This crate knows no mutation and no index: a vector says how far something has come, and no more.
 #![tactic(auto)]
 
-mod laws;
+pub mod laws;
 mod vbucket;
 mod vector;
 
-pub use laws::{cover_is_order, join_is_least, meet_is_greatest};
 pub use vbucket::vb_of;
 pub use vector::{Vector, zero};
 

@@ -1,5 +1,5 @@
 -- Changes of documents by mutations.
-use Rattle.std.proofs.Common.{◌≡◌, ◌≢◌, ℕ, ◌+◌, ◌<◌, ◌≤◌, List, [], ◌∷◌, ◌++◌, Bool, true, false, cond, Option, Some, None, leb, eqb, T, get_or, length, set, refl, ap, sym, subst, ◌∙◌, inl, inr, arith, append_assoc, append-nil, ltb, take, drop, suc, ◌-◌}
+use Rattle.std.proofs.Common.{◌≡◌, ◌≢◌, ℕ, ◌+◌, ◌<◌, ◌≤◌, List, [], ◌∷◌, ◌++◌, Bool, true, false, cond, Option, Some, None, leb, eqb, get_or, length, set, refl, ap, sym, subst, ◌∙◌, inl, inr, arith, append_assoc, append-nil, ltb, take, drop, suc, ◌-◌}
 use Rattle.std.specs.List.{filter, fold, Contains}
 use Rattle.std.specs.Ordering.{nat_cmp, eq_by_cmp, is_eq}
 use Rattle.std.specs.declared.cmp.Ordering.{Ordering}
@@ -8,9 +8,9 @@ use Rattle.std.specs.Cmp.Lexicographic.{slice_cmp, nat_list_cmp_total}
 use Rattle.std.specs.FinMap as map
 use Rattle.std.proofs.lemmas.Bool.{cases_lt, lt-ltb, le-leb, cond-true, eq-eqb}
 use Rattle.std.proofs.lemmas.Bool.Decides.{leb_tells, eqb_tells}
-use Rattle.std.proofs.lemmas.List.{get_or-set_other, get_or_past, take-append-drop}
+use Rattle.std.proofs.lemmas.List.{get_or-set_other, get_or_past, get_or-replicate, length-replicate, take-append-drop}
 use Rattle.std.proofs.Math.Seq.{drop-append_seam, drop-cons}
-use Rattle.std.specs.Prelude.{slice_range}
+use Rattle.std.specs.Prelude.{slice_range, replicate}
 use Rattle.std.proofs.lemmas.List.Elements.{filter-append}
 use Rattle.std.proofs.lemmas.List.Sums.{fold-append}
 use Rattle.std.proofs.lemmas.Map.Text.{is_eq-slice_cmp}
@@ -186,3 +186,14 @@ get-documents_at log v id = last_body None (filter (reaches v) log) map.empty id
 pub get-documents_at-high : (n : ℕ) (log : List Mutation) (id : List ℕ) → IsNumbered n log → 0 < n → map.get (documents_at log (high_of n log)) id ≡ body_of (current_of log id)
 get-documents_at-high n log id h some =
     ap (λ d. map.get d id) (documents_at-high n log h some) ∙ last_body None log map.empty id (map.get-empty (slice_cmp nat_cmp) id)
+
+-- nothing stands at the vector of zeros
+entry-zeros : (k vb : ℕ) → get_or {A = ℕ} (replicate k 0) vb 0 ≡ 0
+entry-zeros k vb = elim (cases_lt vb k) [
+  | inl lt ↦ get_or-replicate k vb 0 0 lt
+  | inr ge ↦ get_or_past (replicate k 0) vb 0 (omega (arith, length-replicate {A = ℕ} k 0))
+]
+
+pub documents_at-zeros : (n k : ℕ) (log : List Mutation) → IsNumbered n log → documents_at log (replicate k 0) ≡ map.empty
+unfolding documents_at
+documents_at-zeros n k log h = ap (with_mutations map.empty) (none_reached n (replicate k 0) [] log h (λ vb. omega (arith, entry-zeros k vb)))

@@ -1,7 +1,5 @@
 -- A store stands for its mutations, from none on by one more at a time.
-use Rattle.std.proofs.Common.{◌≡◌, ◌≢◌, ℕ, ◌+◌, ◌<◌, ◌≤◌, List, [], ◌∷◌, ◌++◌, Bool, true, false, cond, Option, Some, None, eqb, length, get_or, set, replicate, refl, ap, sym, subst, ◌∙◌, inl, inr, arith, append-nil}
-use Rattle.std.specs.Prelude.{nat_eq}
-use Rattle.std.specs.List.{fold, filter}
+use Rattle.std.proofs.Common.{◌≡◌, ℕ, ◌<◌, ◌≤◌, List, [], ◌∷◌, ◌++◌, Bool, true, false, cond, Option, Some, None, eqb, length, get_or, set, replicate, refl, ap, sym, subst, ◌∙◌, inl, inr, arith, append-nil}
 use Rattle.std.specs.Str.{bytes_eq}
 use Rattle.std.proofs.lemmas.Cmp.{nat_list_eq_equiv}
 use Rattle.std.proofs.lemmas.Bool.Decides.{eqb_tells}
@@ -12,7 +10,7 @@ use Rattle.std.proofs.lemmas.Grind.{same_number_lists}
 use Rattle.std.specs.Option.{option_map}
 use Rattle.n1ql_value.specs.declared.value.Value.{Value}
 use Rattle.vb_store.specs.declared.mutation.Mutation.{Mutation}
-use Rattle.vb_store.specs.Mutations.{of_vbucket, count_of, IsNext, IsNumbered, high_of, current_of, next_of}
+use Rattle.vb_store.specs.Mutations.{of_vbucket, IsNext, high_of, next_of}
 use Rattle.vb_store.specs.Held.{IsKept}
 use Rattle.vb_store.proofs.Numbering.{of_vbucket-append, numbered_push, high_of-push, length-high_of, entry-high_of}
 

@@ -1,4 +1,5 @@
 pub mod Numbering
 pub mod Changes
+pub mod Slices
 pub mod Keeping
 pub mod ByVbucketLemmas

@@ -1,18 +1,18 @@
 -- Numbered lists of mutations, by one mutation at a time.
-use Rattle.std.proofs.Common.{◌≡◌, ◌≢◌, ℕ, zero, suc, ◌+◌, ◌-◌, ◌<◌, ◌≤◌, List, [], ◌∷◌, ◌++◌, Bool, true, false, cond, eqb, leb, ltb, length, get_or, set, take, drop, map, refl, ap, sym, subst, ◌∙◌, inl, inr, arith, append_assoc, append-nil, length-append}
+use Rattle.std.proofs.Common.{◌≡◌, ◌≢◌, ℕ, suc, ◌+◌, ◌-◌, ◌<◌, ◌≤◌, List, [], ◌∷◌, ◌++◌, Bool, true, false, cond, eqb, leb, ltb, length, get_or, set, take, drop, refl, ap, sym, subst, ◌∙◌, inl, inr, arith, append_assoc, append-nil, length-append}
 use Rattle.std.specs.Prelude.{⊤, ◌&&◌, slice_range}
-use Rattle.std.specs.List.{filter, range_with_len}
+use Rattle.std.specs.List.{filter}
 use Rattle.std.proofs.lemmas.Bool.{cases_lt, cond-true, cond-false, lt-ltb, le-leb}
 use Rattle.std.proofs.lemmas.Bool.Decides.{eqb_tells, leb_tells}
 use Rattle.std.proofs.lemmas.List.Elements.{filter-append}
 use Rattle.std.proofs.lemmas.List.FromFn.{get_or-map-range_with_len, length-map-range_with_len}
 use Rattle.std.proofs.lemmas.Grind.{same_number_lists, get_or-set_at}
-use Rattle.std.proofs.lemmas.List.{get_or-set_same, get_or-set_other, get_or_past}
+use Rattle.std.proofs.lemmas.List.{get_or-set_other, get_or_past}
 use Rattle.std.proofs.Math.ListN.{length-set}
 use Rattle.std.proofs.Math.Seq.{drop-nil, take-nil}
 use Rattle.std.proofs.Math.Nat.{sub-zero}
 use Rattle.std.proofs.lemmas.Bool.{and_right}
-use Rattle.seq_vector.specs.Vectors.{vbucket_of, entry}
+use Rattle.seq_vector.specs.Vectors.{IsCovered}
 use Rattle.vb_store.specs.declared.mutation.Mutation.{Mutation}
 use Rattle.vb_store.specs.Mutations.{of_vbucket, count_of, IsNext, IsNumberedBehind, IsNumbered, high_of, slice_of}
 
@@ -168,3 +168,9 @@ pub slice_of-append : (n : ℕ) (log more : List Mutation) (vb after upto : ℕ)
 slice_of-append n log more vb after upto h le =
     ap (filter (is_numbered_within after upto)) (of_vbucket-append vb log more) ∙ filter-append (is_numbered_within after upto) (of_vbucket vb log) (of_vbucket vb more)
     ∙ ap (λ ys. slice_of log vb after upto ++ ys) (above_all n vb after upto log more (numbered_parts n [] log more h).1 le) ∙ append-nil _
+
+-- the newest numbers only grow
+pub high_of-grows : (n : ℕ) (log more : List Mutation) → IsCovered (high_of n log) (high_of n (log ++ more))
+high_of-grows n log more = λ vb h.
+    let lt : vb < n = omega (arith, length-high_of n log) in
+    omega (arith, entry-high_of n log vb lt, entry-high_of n (log ++ more) vb lt, count_of-append vb log more)

@@ -1,5 +1,5 @@
 -- The documents that stand at a vector.
-use Rattle.std.specs.Prelude.{◌≡◌, ℕ, List, [], ◌∷◌, Bool, Option, Some, None, nat_le}
+use Rattle.std.specs.Prelude.{ℕ, List, Bool, Option, Some, None, nat_le}
 use Rattle.std.specs.List.{filter, fold}
 use Rattle.std.specs.Ordering.{nat_cmp}
 use Rattle.std.specs.Cmp.Lexicographic.{slice_cmp}

@@ -1,7 +1,7 @@
-ghost use Rattle.std.specs.Prelude.{◌≡◌, ℕ, ◌+◌, ◌<◌, ◌≤◌, List, [], ◌∷◌, ◌++◌, length, slice_set, slice_range};
+ghost use Rattle.std.specs.Prelude.{◌≡◌, ℕ, ◌+◌, ◌-◌, ◌<◌, ◌≤◌, Some, nat_lt, slice_get, List, [], ◌∷◌, ◌++◌, length, slice_set, slice_range};
 ghost use Rattle.std.specs.List.{filter, Contains};
-ghost use Rattle.std.specs.FinMap.{get};
-ghost use Rattle.seq_vector.specs.Vectors.{entry, IsCovered};
+ghost use Rattle.std.specs.FinMap.{get, empty};
+ghost use Rattle.seq_vector.specs.Vectors.{entry, IsCovered, zeros, vbucket_of};
 ghost use Rattle.vb_store.specs.declared.mutation.Mutation.{Mutation};
 ghost use Rattle.vb_store.specs.Mutations.{of_vbucket, count_of, IsNumbered, IsNext, high_of, slice_of, current_of};
 ghost use Rattle.vb_store.specs.Documents.{with_mutation, with_mutations, reaches, documents_at, body_of};
@@ -17,6 +17,11 @@ pub fn growth()
     ensures front { (n : ℕ) (log more : List Mutation) → IsNumbered n (log ++ more) → IsNumbered n log }
 {}
 
+/// Law of the start: at the vector of zeros there are no documents.
+pub fn start()
+    ensures { (n k : ℕ) (log : List Mutation) → IsNumbered n log → documents_at log (zeros k) ≡ empty }
+{}
+
 /// Law of the next mutation: one more number of a vBucket is the one change of its mutation.
 pub fn next_mutation()
     ensures { (n : ℕ) (log : List Mutation) (v : List ℕ) (m : Mutation)
@@ -26,11 +31,25 @@ pub fn next_mutation()
 
 /// Law of a slice: more numbers of a vBucket are the changes of its mutations, in order.
 pub fn next_slice()
-    ensures documents { (n : ℕ) (log : List Mutation) (v : List ℕ) (vb upto : ℕ)
+    ensures { (n : ℕ) (log : List Mutation) (v : List ℕ) (vb upto : ℕ)
         → IsNumbered n log → vb < length v → entry v vb ≤ upto
         → documents_at log (slice_set v vb upto) ≡ with_mutations (documents_at log v) (slice_of log vb (entry v vb) upto) }
+{}
+
+/// Law of the numbers in a slice: it has each of them once, in order, and falls into slices at any number within it.
+pub fn slice_numbers()
     ensures places { (n : ℕ) (log : List Mutation) (vb after upto : ℕ)
         → IsNumbered n log → slice_of log vb after upto ≡ slice_range (of_vbucket vb log) after upto }
+    ensures size { (n : ℕ) (log : List Mutation) (vb after upto : ℕ)
+        → IsNumbered n log → upto ≤ count_of vb log → length (slice_of log vb after upto) ≡ upto - after }
+    ensures parts { (n : ℕ) (log : List Mutation) (vb after mid upto : ℕ)
+        → IsNumbered n log → after ≤ mid → mid ≤ upto
+        → slice_of log vb after upto ≡ slice_of log vb after mid ++ slice_of log vb mid upto }
+    ensures above { (log : List Mutation) (vb after mid upto : ℕ)
+        → after ≤ mid → filter (λ m. nat_lt mid m.seqno) (slice_of log vb after upto) ≡ slice_of log vb mid upto }
+    ensures numbers { (n : ℕ) (log : List Mutation) (vb after upto k : ℕ) (m : Mutation)
+        → IsNumbered n log → slice_get (slice_of log vb after upto) k ≡ Some m
+        → (m.vb ≡ vb) × (m.seqno ≡ after + k + 1) × (m.vb ≡ vbucket_of m.id n) }
 {}
 
 /// Law of an append: at the newest numbers it is the one change of its mutation.
@@ -48,6 +67,8 @@ pub fn append_changes()
 pub fn high_counts()
     ensures size { (n : ℕ) (log : List Mutation) → length (high_of n log) ≡ n }
     ensures entries { (n : ℕ) (log : List Mutation) (vb : ℕ) → vb < n → entry (high_of n log) vb ≡ count_of vb log }
+    ensures none { (n : ℕ) → high_of n [] ≡ zeros n }
+    ensures grows { (n : ℕ) (log more : List Mutation) → IsCovered (high_of n log) (high_of n (log ++ more)) }
 {}
 
 /// Law of the last mutation: it is what leaves the document of its id.

@@ -1,4 +1,5 @@
-use Rattle.vb_store.proofs.Numbering.{length-high_of, entry-high_of}
+use Rattle.vb_store.proofs.Numbering.{length-high_of, entry-high_of, high_of-grows}
+use Rattle.vb_store.proofs.Keeping.{high_of-nil}
 use Rattle.vb_store.proofs.laws.high_counts.Goals as goal
 
 pub returns-clause-size : goal.returns-clause-size
@@ -6,3 +7,9 @@ returns-clause-size c = length-high_of
 
 pub returns-clause-entries : goal.returns-clause-entries
 returns-clause-entries c = entry-high_of
+
+pub returns-clause-none : goal.returns-clause-none
+returns-clause-none c = high_of-nil
+
+pub returns-clause-grows : goal.returns-clause-grows
+returns-clause-grows c = high_of-grows

@@ -7,7 +7,6 @@ use Rattle.std.proofs.lemmas.Grind.{common_steps}
 use Rattle.std.proofs.lemmas.List.{map-append}
 use Rattle.std.proofs.lemmas.Map.Text.{btree_map_updates_text}
 use Rattle.std.specs.Arc.{arc_value}
-use Rattle.vb_store.specs.declared.mutation.Mutation.{Mutation}
 use Rattle.vb_store.specs.Mutations.{next_of}
 use Rattle.vb_store.specs.Held.{IsKept, lists_of}
 use Rattle.vb_store.proofs.Keeping.{kept_push_at, mapped_cond, IsNext-next_of, next_of-within}
