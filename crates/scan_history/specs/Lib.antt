@@ -1,3 +1,6 @@
 pub mod Events
 pub mod Happened
 pub mod Fold
+pub mod RowTexts
+pub mod Answers
+pub mod Ddl

@@ -1,7 +1,6 @@
+use crate::event::Events;
 use n1ql_value::{ListOf, Text};
 use seq_vector::Vector;
-
-use crate::event::Events;
 
 /// The outcome of a script: its history, the texts of its answers in the order of their events, and how its indexes ended.
 #[derive(Drop)]

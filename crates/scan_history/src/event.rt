@@ -1,10 +1,9 @@
 ghost use Rattle.std.specs.Prelude.{◌≡◌};
 
-use std::marker::Model;
-use std::sync::Arc;
-
 use n1ql_value::{ListOf, Text};
 use seq_vector::Vector;
+use std::marker::Model;
+use std::sync::Arc;
 use vb_store::Mutation;
 
 /// The numbers of indexes.
@@ -28,9 +27,16 @@ pub enum Event {
         field: Text,
     },
     /// A snapshot of an index was published at a vector.
-    Publish { i: u32, at: Arc<Vector> },
+    Publish {
+        i: u32,
+        at: Arc<Vector>,
+    },
     /// The indexes of a creation went online.
-    Online { c: u32, k: u32, indexes: Numbers },
+    Online {
+        c: u32,
+        k: u32,
+        indexes: Numbers,
+    },
     /// A scan began on an index, with the vector that its answer has to cover.
     Start {
         c: u32,
@@ -39,7 +45,11 @@ pub enum Event {
         demand: Vector,
     },
     /// A scan was answered from the snapshot at a vector.
-    Answer { c: u32, k: u32, at: Arc<Vector> },
+    Answer {
+        c: u32,
+        k: u32,
+        at: Arc<Vector>,
+    },
 }
 
 /// An event. Contracts see it with the values that it shares.

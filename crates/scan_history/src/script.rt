@@ -1,6 +1,5 @@
-use n1ql_value::{ListOf, Text};
-
 use crate::command::Command;
+use n1ql_value::{ListOf, Text};
 
 /// The commands of one client, in the order of their lines.
 pub type Commands = ListOf<Command>;
