@@ -29,3 +29,7 @@ json_of = fold-Datum Data json_layer
 -- the value's compact text
 abbrev pub text_of : Datum → List ℕ
 text_of d = compact_text (json_of d)
+
+-- a pair with its value as JSON
+abbrev pub json_pair : List ℕ × Datum → List ℕ × Data
+json_pair p = (p.0, json_of p.1)

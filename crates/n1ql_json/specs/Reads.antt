@@ -51,3 +51,9 @@ Gives outcome (Ok v) = outcome ≡ Ok (datum_of v)
 Gives outcome (Err Memory) = ⊤
 Gives outcome (Err Syntax) = outcome ≡ Err Syntax
 Gives outcome (Err Number) = outcome ≡ Err Number
+
+-- for private clauses: a step answers this fault, Number exactly where nothing is found
+abbrev pub IsFault : {A : Type 0} → Option A → JsonFault → Type 0
+IsFault found Memory = ⊤
+IsFault found Number = found ≡ None
+IsFault found Syntax = ⊥

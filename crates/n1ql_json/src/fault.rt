@@ -1,3 +1,4 @@
+use n1ql_value::Memory;
 use thiserror::Error;
 
 /// Why bytes were not read as a value.
@@ -12,4 +13,15 @@ pub enum JsonFault {
     /// Memory ran out.
     #[error("memory ran out")]
     Memory,
+}
+
+impl From<Memory> for JsonFault {
+    ghost use Rattle.std.specs.Prelude.{◌≡◌};
+    ghost use Rattle.n1ql_json.specs.declared.fault.JsonFault.TheVariants as fault;
+
+    ghost from_gives = { λ _ e. e ≡ fault.Memory };
+
+    fn from(_ran_out: Memory) -> JsonFault {
+        JsonFault::Memory
+    }
 }

@@ -1,6 +1,11 @@
-//! JSON to values and back (RFC 8259), with whole numbers alone.
+//! JSON to values and back (RFC 8259), with whole numbers alone. The grammar, the numbers and the escapes are those of
+//! `serde_json`; this crate goes between its values and ours.
 #![tactic(auto)]
 
 mod fault;
+mod reading;
+mod writing;
 
 pub use fault::JsonFault;
+pub use reading::read;
+pub use writing::write;
