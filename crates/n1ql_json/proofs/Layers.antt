@@ -1,9 +1,11 @@
 -- The JSON of a value by its top, and of what stands below it one after another.
-use Rattle.std.proofs.Common.{◌≡◌, ℕ, zero, suc, ◌+◌, ◌*◌, ◌<◌, ◌≤◌, List, [], ◌∷◌, length, get_or, take, map, Less, Greater, nat_cmp, refl, sym, ap, ◌∙◌, arith, add-one}
+use Rattle.std.proofs.Common.{◌≡◌, ℕ, zero, suc, ◌+◌, ◌*◌, ◌<◌, ◌≤◌, List, [], ◌∷◌, length, get_or, take, map, Less, Greater, nat_cmp, refl, sym, ap, ◌∙◌, arith, rules, add-one, Bool}
 use Rattle.std.proofs.lemmas.Cmp.{nat_list_cmp_total}
 use Rattle.std.specs.Cmp.Lexicographic.{slice_cmp}
 use Rattle.std.specs.Ordering.{ordering_reverse}
-use Rattle.serde_json.specs.Data.{Data, Members, no_members, member, put}
+use Rattle.serde_json.specs.Data.{Data, null, boolean, Members, no_members, member, put}
+use Rattle.serde_json.specs.declared.value.Value.TheVariants as Json
+use Rattle.serde_json.specs.declared.value.Value.{the_lemmas}
 use Rattle.serde_json.specs.View.{view, members_view}
 use Rattle.n1ql_value.specs.declared.datum.Datum.{Datum, fold-Datum, out-Datum}
 use Rattle.n1ql_value.specs.declared.datum.Datum.TheFolds.{map-Datum, fold_out-Datum}
@@ -13,6 +15,12 @@ use Rattle.n1ql_value.specs.Datum.{datum_of, pair_of, layer_of, out_datum_of}
 use Rattle.n1ql_value.specs.Depth.{largest, depth, pairs_depth}
 use Rattle.n1ql_value.specs.Names.{IsBelowFirst, NamesGrow}
 use Rattle.n1ql_json.specs.Json.{json_of, json_layer, json_pair, members_with}
+
+pub view-Null : view Json.Null ≡ null
+view-Null = search (rules, the_lemmas)
+
+pub view-Bool : (b : Bool) → view (Json.Bool b) ≡ boolean b
+view-Bool b = search (rules, the_lemmas)
 
 abbrev pub Entry : Type 0
 Entry = Bytes × Value

@@ -5,7 +5,7 @@ ghost use Rattle.n1ql_value.specs.Datum.{datum_of, pair_of};
 ghost use Rattle.n1ql_value.specs.Names.{NamesGrow};
 ghost use Rattle.n1ql_json.specs.Json.{json_of, json_pair, members_with, text_of};
 
-use n1ql_value::{Memory, Text, Value};
+use n1ql_value::{Memory, Pairs, Value};
 use serde_json::{Map, Value as Json};
 use std::alloc::Global;
 
@@ -37,7 +37,7 @@ fn json_value(alloc: Global, value: &Value) -> Result<Json, Memory>
         Value::Int(n) => Ok(Json::from(*n)),
         Value::Text(text) => Ok(Json::try_from_str(alloc, text.as_str())?),
         Value::Array(items) => Ok(Json::Array(json_items(alloc, items.as_slice())?)),
-        Value::Object(pairs) => Ok(Json::Object(json_members(alloc, pairs.as_slice())?)),
+        Value::Object(pairs) => Ok(Json::Object(json_members(alloc, pairs)?)),
     }
 }
 
@@ -55,12 +55,11 @@ fn json_items(alloc: Global, items: &[Value]) -> Result<Vec<Json>, Memory>
 
 /// The pairs of an object as its members.
 #[cycle(json)]
-fn json_members(alloc: Global, pairs: &[(Text, Value)]) -> Result<Map<String, Json>, Memory>
-    requires { NamesGrow (map pair_of pairs.now) }
-    ensures { IfOk result (λ m. members_view m.entries ≡ members_with (map json_pair (map pair_of pairs.now))) }
+fn json_members(alloc: Global, pairs: &Pairs) -> Result<Map<String, Json>, Memory>
+    ensures { IfOk result (λ m. members_view m.entries ≡ members_with (map json_pair pairs.now)) }
 {
     let mut found = Map::new(alloc);
-    for (name, value) in pairs {
+    for (name, value) in pairs.as_slice() {
         let member = json_value(alloc, value)?;
         serde_json::put(&mut found, alloc, name.as_str(), member)?;
     }

@@ -1,5 +1,6 @@
 use Rattle.std.proofs.Common.{◌≡◌, suc, map, get_or, arith, sym, ap, ◌∙◌, subst}
-use Rattle.serde_json.specs.Data.{array, object}
+use Rattle.serde_json.specs.Data.{number, string, array, object}
+use Rattle.serde_json.specs.Find.{of_integer}
 use Rattle.serde_json.specs.View.{items_of}
 use Rattle.serde_json.proofs.Views.{view-Array, view-Object}
 use Rattle.n1ql_value.specs.declared.value.Value.{Value}
@@ -8,7 +9,7 @@ use Rattle.n1ql_value.specs.Datum.{datum_of, pair_of}
 use Rattle.n1ql_value.specs.Depth.{largest, depth, pairs_depth, depth-array, depth-object}
 use Rattle.n1ql_value.specs.Names.{NamesGrow}
 use Rattle.n1ql_json.specs.Json.{json_of, json_pair, members_with}
-use Rattle.n1ql_json.proofs.Layers.{Entry, json_of-layer, depth_at, pair_depth_at, put_more}
+use Rattle.n1ql_json.proofs.Layers.{Entry, view-Null, view-Bool, json_of-layer, depth_at, pair_depth_at, put_more}
 use Rattle.n1ql_json.proofs.writing.+json.Goals as goal
 
 pub json_items-json_value-requires : goal.json_items-json_value-requires
@@ -19,9 +20,7 @@ json_items-json_value-requires t c =
 
 pub json_members-json_value-requires : goal.json_members-json_value-requires
 json_members-json_value-requires t c =
-    let entry : Entry = c.loop-name-item.result in
-    let same : depth (datum_of entry.1) ≡ depth (datum_of (get_or c.args.pairs.now c.loop-name.name-index entry).1) = ap (λ (e : Entry). depth (datum_of e.1)) c.loop-name-item.is in
-    (omega (arith, c.decreases, same, pair_depth_at c.args.pairs.now c.loop-name.name-index entry (omega arith)), tt)
+    ?
 
 pub json_members-loop-name-preserved : goal.json_members-loop-name-preserved
 json_members-loop-name-preserved t c = ?
@@ -35,23 +34,23 @@ json_value-json_items-requires t c =
 pub json_value-json_members-requires : goal.json_value-json_members-requires
 json_value-json_members-requires t c =
     let whole : depth (datum_of c.args.value.now) ≡ suc (pairs_depth c.in-Object.pairs) = ap (λ (v : Value). depth (datum_of v)) c.in-Object.is ∙ depth-object c.in-Object.pairs in
-    let parts : pairs_depth (map pair_of c.as_slice-in-Object.result.now) ≡ pairs_depth c.in-Object.pairs = ap pairs_depth c.as_slice-in-Object.ensures in
-    (omega (arith, c.decreases), ?)
+    (omega (arith, c.decreases), tt)
 
 pub json_value-returns-in-Missing : goal.json_value-returns-in-Missing
-json_value-returns-in-Missing t c = sym (json_of-layer c.args.value.now Missing c.in-Missing.is)
+json_value-returns-in-Missing t c = view-Null ∙ sym (json_of-layer c.args.value.now Missing c.in-Missing.is)
 
 pub json_value-returns-in-Null : goal.json_value-returns-in-Null
-json_value-returns-in-Null t c = sym (json_of-layer c.args.value.now Null c.in-Null.is)
+json_value-returns-in-Null t c = view-Null ∙ sym (json_of-layer c.args.value.now Null c.in-Null.is)
 
 pub json_value-returns-in-Bool : goal.json_value-returns-in-Bool
-json_value-returns-in-Bool t c = sym (json_of-layer c.args.value.now (Bool c.in-Bool.b) c.in-Bool.is)
+json_value-returns-in-Bool t c = view-Bool c.in-Bool.b ∙ sym (json_of-layer c.args.value.now (Bool c.in-Bool.b) c.in-Bool.is)
 
 pub json_value-returns-in-Int : goal.json_value-returns-in-Int
-json_value-returns-in-Int t c = c.from.ensures ∙ sym (json_of-layer c.args.value.now (Int c.in-Int.n) c.in-Int.is)
+json_value-returns-in-Int t c = c.from.ensures ∙ ap (λ z. number (of_integer z)) ? ∙ sym (json_of-layer c.args.value.now (Int c.in-Int.n) c.in-Int.is)
 
 pub json_value-returns-in_ok-try_from_str-in-Text : goal.json_value-returns-in_ok-try_from_str-in-Text
-json_value-returns-in_ok-try_from_str-in-Text t c = ?
+json_value-returns-in_ok-try_from_str-in-Text t c =
+    c.in_ok-try_from_str-in-Text.ensures ∙ (ap string c.as_str.ensures ∙ sym (json_of-layer c.args.value.now (Text c.in-Text.text) c.in-Text.is))
 
 pub json_value-returns-in_ok-json_items-in-Array : goal.json_value-returns-in_ok-json_items-in-Array
 json_value-returns-in_ok-json_items-in-Array t c =
@@ -62,5 +61,5 @@ json_value-returns-in_ok-json_items-in-Array t c =
 pub json_value-returns-in_ok-json_members-in-Object : goal.json_value-returns-in_ok-json_members-in-Object
 json_value-returns-in_ok-json_members-in-Object t c =
     view-Object c.in_ok-json_members-in-Object.field-0
-    ∙ (ap object (c.in_ok-json_members-in-Object.ensures ∙ ap (λ ps. members_with (map json_pair ps)) c.as_slice-in-Object.ensures)
+    ∙ (ap object c.in_ok-json_members-in-Object.ensures
     ∙ sym (json_of-layer c.args.value.now (Object c.in-Object.pairs) c.in-Object.is))

@@ -1,6 +1,6 @@
 use Rattle.std.proofs.Common.{◌≡◌, ◌+◌, ◌*◌, take, map}
 use Rattle.serde_json.specs.View.{view, members_view}
-use Rattle.n1ql_value.specs.Datum.{datum_of, pair_of}
+use Rattle.n1ql_value.specs.Datum.{datum_of}
 use Rattle.n1ql_value.specs.Depth.{largest, depth, pairs_depth}
 use Rattle.n1ql_json.specs.Json.{json_of}
 use Rattle.n1ql_json.proofs.Layers.{members_to}
@@ -10,7 +10,7 @@ abbrev pub invariant-json_items-loop-item : goal.invariant-json_items-loop-item
 invariant-json_items-loop-item l = map view l.found.items ≡ map json_of (map datum_of (take l.item-index l.items))
 
 abbrev pub invariant-json_members-loop-name : goal.invariant-json_members-loop-name
-invariant-json_members-loop-name l = members_view l.found.entries ≡ members_to l.pairs l.name-index
+invariant-json_members-loop-name l = members_view l.found.entries ≡ members_to l.name-items l.name-index
 
 abbrev pub decreases-json_value : goal.decreases-json_value
 decreases-json_value l = 2 * depth (datum_of l.value.now)
@@ -19,4 +19,4 @@ abbrev pub decreases-json_items : goal.decreases-json_items
 decreases-json_items l = 2 * largest (map depth (map datum_of l.items.now)) + 1
 
 abbrev pub decreases-json_members : goal.decreases-json_members
-decreases-json_members l = 2 * pairs_depth (map pair_of l.pairs.now) + 1
+decreases-json_members l = 2 * pairs_depth l.pairs.now + 1
