@@ -1,13 +1,13 @@
 -- The JSON of a value by its top, and of what stands below it one after another.
-use Rattle.std.proofs.Common.{◌≡◌, ℕ, zero, suc, ◌+◌, ◌*◌, ◌<◌, ◌≤◌, List, [], ◌∷◌, length, get_or, take, map, Less, Greater, nat_cmp, refl, sym, ap, ◌∙◌, arith, rules, add-one, Bool}
+use Rattle.std.proofs.Common.{◌≡◌, ℕ, zero, suc, ◌+◌, ◌<◌, ◌≤◌, List, [], ◌∷◌, length, get_or, take, map, Less, Greater, nat_cmp, refl, sym, ap, ◌∙◌, arith, rules, add-one, Bool}
 use Rattle.std.proofs.lemmas.Cmp.{nat_list_cmp_total}
 use Rattle.std.specs.Cmp.Lexicographic.{slice_cmp}
 use Rattle.std.specs.Ordering.{ordering_reverse}
-use Rattle.serde_json.specs.Data.{Data, null, boolean, Members, no_members, member, put}
+use Rattle.serde_json.specs.Data.{Data, null, boolean, Members, member, put}
 use Rattle.serde_json.specs.declared.value.Value.TheVariants as Json
 use Rattle.serde_json.specs.declared.value.Value.{the_lemmas}
-use Rattle.serde_json.specs.View.{view, members_view}
-use Rattle.n1ql_value.specs.declared.datum.Datum.{Datum, fold-Datum, out-Datum}
+use Rattle.serde_json.specs.View.{view}
+use Rattle.n1ql_value.specs.declared.datum.Datum.{Datum}
 use Rattle.n1ql_value.specs.declared.datum.Datum.TheFolds.{map-Datum, fold_out-Datum}
 use Rattle.n1ql_value.specs.declared.text.Text.{Text as Bytes}
 use Rattle.n1ql_value.specs.declared.value.Value.{Value}

@@ -1,3 +1,4 @@
 mod Members
 mod Outcomes
 mod Layers
+mod Laws

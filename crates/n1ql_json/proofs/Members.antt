@@ -1,19 +1,17 @@
 -- Reading the items of an array and the members of an object, one after another.
-use Rattle.std.proofs.Common.{◌≡◌, ℕ, zero, suc, ◌+◌, ◌<◌, ◌≤◌, List, [], ◌∷◌, ◌++◌, length, get_or, drop, map, Option, Some, None, option_map, option_and_then, Less, Equal, Greater, string_bytes, string_cmp, nat_cmp, refl, sym, ap, ap₂, ◌∙◌, subst, arith, append_assoc, append-nil, add-one}
+use Rattle.std.proofs.Common.{◌≡◌, ℕ, List, [], ◌∷◌, ◌++◌, Option, Some, None, option_map, Less, Greater, string_bytes, string_cmp, nat_cmp, refl, sym, ap, ◌∙◌, subst, append_assoc}
 use Rattle.std.specs.Prelude.{⊤}
 use Rattle.std.proofs.lemmas.Cmp.{nat_list_cmp_total}
 use Rattle.std.specs.Cmp.Lexicographic.{slice_cmp}
 use Rattle.std.specs.List.{AllByRecursion}
 use Rattle.std.specs.List.Sorted.{IsStrictlySortedBy}
 use Rattle.std.specs.Map.{keys_of}
-use Rattle.std.specs.Ordering.{ordering_reverse, match_ordering}
-use Rattle.serde_json.specs.Data.{Data, Items, no_items, item, Members, no_members, member}
-use Rattle.serde_json.specs.View.{view, items_view, members_view}
-use Rattle.serde_json.specs.declared.value.Value.{Value as Json}
+use Rattle.std.specs.Ordering.{ordering_reverse}
+use Rattle.serde_json.specs.View.{view, members_view}
 use Rattle.serde_json.proofs.Views.{Entry as JsonEntry}
 use Rattle.n1ql_value.specs.declared.datum.Datum.{Datum}
 use Rattle.n1ql_value.specs.Names.{with_pair}
-use Rattle.n1ql_json.specs.Reads.{value_read, items_read, members_read}
+use Rattle.n1ql_json.specs.Reads.{value_read, members_read}
 
 abbrev pub Entry : Type 0
 Entry = JsonEntry

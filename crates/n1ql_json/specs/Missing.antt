@@ -1,5 +1,5 @@
 -- Values in which MISSING stands somewhere.
-use Rattle.std.specs.Prelude.{ℕ, List, [], ◌∷◌, Bool, true, false, ◌||◌, map}
+use Rattle.std.specs.Prelude.{List, [], ◌∷◌, Bool, true, false, ◌||◌, map}
 use Rattle.n1ql_value.specs.declared.datum.Datum.{Datum, fold-Datum}
 use Rattle.n1ql_value.specs.declared.datum.Datum.TheOpen.{Datum-F}
 

@@ -4,7 +4,7 @@ ghost use Rattle.n1ql_value.specs.Datum.{datum_of};
 ghost use Rattle.n1ql_json.specs.Reads.{value_read, items_read, members_read, read_of, Gives, IsFault};
 
 use crate::fault::JsonFault;
-use n1ql_value::{Pairs, Text, Value, Vals};
+use n1ql_value::{Pairs, Text, Vals, Value};
 use serde_json::{Map, Value as Json};
 use std::alloc::Global;
 

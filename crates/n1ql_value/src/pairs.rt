@@ -81,7 +81,8 @@ impl Pairs {
 
     /// The pairs, to go over.
     pub fn as_slice(&self) -> &[(Text, Value)]
-        ensures { map pair_of result.now ≡ self.now }
+        ensures pairs { map pair_of result.now ≡ self.now }
+        ensures grow { NamesGrow self.now }
     {
         self.entries.as_slice()
     }

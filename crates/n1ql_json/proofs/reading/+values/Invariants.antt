@@ -1,4 +1,4 @@
-use Rattle.std.proofs.Common.{◌≡◌, List, ◌++◌, drop, option_map, map}
+use Rattle.std.proofs.Common.{◌≡◌, List, ◌++◌, drop, option_map}
 use Rattle.std.specs.Prelude.{ℕ}
 use Rattle.serde_json.specs.View.{items_view, members_view}
 use Rattle.n1ql_value.specs.declared.datum.Datum.{Datum}

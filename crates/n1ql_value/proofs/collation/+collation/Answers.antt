@@ -47,7 +47,7 @@ collate-collate_items-requires t c =
 pub collate-collate_objects-requires : goal.collate-collate_objects-requires
 collate-collate_objects-requires t c =
     let whole : depth (datum_of c.args.a.now) ≡ suc (pairs_depth c.in-Object.ps) = ap (λ (v : Value). depth (datum_of v)) c.in-Object.is ∙ depth-object c.in-Object.ps in
-    let parts : pairs_depth (map pair_of c.as_slice-in-Object-b.result.now) ≡ pairs_depth c.in-Object.ps = ap pairs_depth c.as_slice-in-Object-b.ensures in
+    let parts : pairs_depth (map pair_of c.as_slice-in-Object-b.result.now) ≡ pairs_depth c.in-Object.ps = ap pairs_depth c.as_slice-in-Object-b.ensures.pairs in
     (omega (arith, c.decreases), tt)
 
 pub collate_items-collate-requires : goal.collate_items-collate-requires
