@@ -1,0 +1,62 @@
+-- The answers of a history, and how its indexes ended.
+use Rattle.std.specs.Prelude.{ℕ, ◌==◌, List, [], ◌∷◌, ◌++◌, map, length, Option, Some, None, option_and_then, slice_get, codes, if◌then◌else◌}
+use Rattle.n1ql_value.specs.declared.range.Range.{Range}
+use Rattle.vb_store.specs.declared.mutation.Mutation.{Mutation}
+use Rattle.vb_store.specs.Documents.{documents_at}
+use Rattle.index_state.specs.Index.{index_of, scan_of}
+use Rattle.scan_history.specs.declared.command.Command.{Command}
+use Rattle.scan_history.specs.declared.command.Command.TheVariants.{Upsert, Delete, Ddl, Scan}
+use Rattle.scan_history.specs.declared.script.Script.{Script}
+use Rattle.scan_history.specs.declared.done.Answered.{Answered}
+use Rattle.scan_history.specs.declared.done.End.{End}
+use Rattle.scan_history.specs.Events.{Event, mutate, define, publish, online, start, answer}
+use Rattle.scan_history.specs.Fold.{Opened, nothing, work, started, Index, State, first_state, step, state_after}
+use Rattle.scan_history.specs.RowTexts.{rows_text}
+
+-- command k of client c
+abbrev pub command_at : Script → ℕ → ℕ → Option Command
+command_at script c k = option_and_then (λ commands. slice_get commands k) (slice_get script.commands c)
+
+-- the spans of a scan; another command has none
+abbrev pub spans_of : Option Command → List (List Range)
+spans_of (Some (Scan index spans)) = spans
+spans_of (Some (Upsert id doc)) = []
+spans_of (Some (Delete id)) = []
+spans_of (Some (Ddl text)) = []
+spans_of None = []
+
+-- the field that index i is on
+abbrev pub field_of : ℕ → List Index → List ℕ
+field_of i [] = []
+field_of i (x ∷ xs) = if x.number == i then x.field else field_of i xs
+
+-- the field of the index that a client's scan began on
+abbrev pub started_field : State → ℕ → List ℕ
+started_field s c = elim (s.client c).opened [ nothing ↦ [] | work indexes high ↦ [] | started i demand high ↦ field_of i s.indexes ]
+
+-- The answer of an event in the state before it, where `log` are the mutations of the whole history: the rows of the index
+-- that the spans hold, on the documents at the answer's vector.
+abbrev pub answer_at : Script → List Mutation → State → Event → List Answered
+answer_at script log s (mutate c k what) = []
+answer_at script log s (define c k i deferred field) = []
+answer_at script log s (publish i at) = []
+answer_at script log s (online c k indexes) = []
+answer_at script log s (start c k i demand) = []
+answer_at script log s (answer c k at) =
+    record { c = c; k = k; text = rows_text (scan_of (started_field s c) (spans_of (command_at script c k)) (documents_at log at)) } ∷ []
+
+abbrev pub answers_from : Script → List Mutation → State → List Event → List Answered
+answers_from script log s [] = []
+answers_from script log s (e ∷ es) = answer_at script log s e ++ answers_from script log (step script.vbuckets s e) es
+
+-- the answers of a history, in the order of their events
+unfoldable pub answers_of : Script → List Event → List Answered
+answers_of script events = answers_from script (state_after script.vbuckets events).log (first_state script.vbuckets) events
+
+-- how an index ended: with the rows of its newest publication
+abbrev pub end_of : List Mutation → Index → End
+end_of log x = record { i = x.number; name = codes "ix"; online = x.online; vector = x.board; rows = length (index_of x.field (documents_at log x.board)) }
+
+-- how the live indexes of a history ended
+unfoldable pub ends_of : Script → List Event → List End
+ends_of script events = let s = state_after script.vbuckets events in map (end_of s.log) s.indexes
