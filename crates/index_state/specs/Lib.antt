@@ -1,0 +1,3 @@
+pub mod RowsById
+pub mod Keys
+pub mod Index
