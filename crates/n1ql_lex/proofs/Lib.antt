@@ -1,0 +1,6 @@
+pub mod Cuts
+pub mod QuotedLemmas
+pub mod ReadSoFar
+pub mod SignLemmas
+pub mod TokenLemmas
+pub mod LexedSoFar

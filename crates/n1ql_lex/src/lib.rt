@@ -1,0 +1,21 @@
+//! The tokens of N1QL, each with its place in the text.
+#![tactic(auto)]
+
+mod found;
+mod lex_fault;
+mod lexer;
+mod number;
+mod opening;
+mod quoted_part;
+mod quoted_text;
+mod sign;
+mod token;
+mod token_kind;
+mod token_list;
+mod word;
+
+pub use lex_fault::LexFault;
+pub use lexer::tokens;
+pub use token::Token;
+pub use token_kind::TokenKind;
+pub use token_list::Tokens;
