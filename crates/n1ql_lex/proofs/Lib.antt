@@ -4,3 +4,5 @@ pub mod ReadSoFar
 pub mod SignLemmas
 pub mod TokenLemmas
 pub mod LexedSoFar
+pub mod OneCut
+pub mod Decided

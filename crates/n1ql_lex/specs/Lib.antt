@@ -5,3 +5,4 @@ pub mod Signs
 pub mod Quoted
 pub mod Tokens
 pub mod Found
+pub mod Spans

@@ -2,6 +2,7 @@
 #![tactic(auto)]
 
 mod found;
+mod laws;
 mod lex_fault;
 mod lexer;
 mod number;
@@ -14,6 +15,7 @@ mod token_kind;
 mod token_list;
 mod word;
 
+pub use laws::{one_fault, one_token_list, spans_grow, tokens_or_fault};
 pub use lex_fault::LexFault;
 pub use lexer::tokens;
 pub use token::Token;
