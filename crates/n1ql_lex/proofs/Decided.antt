@@ -72,9 +72,9 @@ has_token-decided opening.String text e =
 has_token-decided opening.Name text e =
     ⊎_elim
     (λ yes. ⊎_elim
-        (λ empty. inr (λ kind len h. h.3 (sym (quoted-same yes.2 h.2).0 ∙ empty)))
-        (λ some. inl (_, _, (yes.0, yes.1, yes.2, some, refl, refl)))
-        (empty-decided yes.0))
+    (λ empty. inr (λ kind len h. h.3 (sym (quoted-same yes.2 h.2).0 ∙ empty)))
+    (λ some. inl (_, _, (yes.0, yes.1, yes.2, some, refl, refl)))
+    (empty-decided yes.0))
     (λ no. inr (λ kind len h. no h.0 h.1 h.2))
     (quoted-decided (get_or text 0 0) (length (drop 1 text)) (drop 1 text) (name-ascii (get_or text 0 0) e) (omega arith))
 has_token-decided opening.Sign text e =
@@ -124,23 +124,23 @@ lexed-decided zero text from within short = let end : from ≡ length text = ome
 lexed-decided (suc fuel) text from within short =
     ⊎_elim
     (λ inside. ⊎_elim
-        (λ b. ⊎_elim
-            (λ yes. inl (yes.0, blank inside b yes.1))
-            (λ f. inr (fault-past_blank inside b f))
-            (lexed-decided fuel text (from + 1) (omega arith) (omega arith)))
-        (λ no_blank. ⊎_elim
-            (λ found.
-                let cut = token-ends found.2 in
-                let some = cut.some in
-                let room = cut.within in
-                let left = length-drop from text in
-                ⊎_elim
-                (λ yes. inl (record { kind = found.0; start = from; end = from + found.1 } ∷ yes.0, token found.1 found.2 yes.1))
-                (λ f. inr (fault-past_token found.1 found.2 f))
-                (lexed-decided fuel text (from + found.1) (omega arith) (omega arith)))
-            (λ no_token. inr (record { at = from; tokens = []; before = none; inside = inside; no_blank = no_blank; no_token = no_token }))
-            (token-decided (drop from text) (omega (arith, length-drop from text))))
-        (cases_Bool (is_blank (get_or text from 0))))
+    (λ b. ⊎_elim
+    (λ yes. inl (yes.0, blank inside b yes.1))
+    (λ f. inr (fault-past_blank inside b f))
+    (lexed-decided fuel text (from + 1) (omega arith) (omega arith)))
+    (λ no_blank. ⊎_elim
+    (λ found.
+    let cut = token-ends found.2 in
+    let some = cut.some in
+    let room = cut.within in
+    let left = length-drop from text in
+    ⊎_elim
+    (λ yes. inl (record { kind = found.0; start = from; end = from + found.1 } ∷ yes.0, token found.1 found.2 yes.1))
+    (λ f. inr (fault-past_token found.1 found.2 f))
+    (lexed-decided fuel text (from + found.1) (omega arith) (omega arith)))
+    (λ no_token. inr (record { at = from; tokens = []; before = none; inside = inside; no_blank = no_blank; no_token = no_token }))
+    (token-decided (drop from text) (omega (arith, length-drop from text))))
+    (cases_Bool (is_blank (get_or text from 0))))
     (λ past. let end : from ≡ length text = omega arith in inl ([], subst (IsCut text from []) end none))
     (cases_lt from (length text))
 

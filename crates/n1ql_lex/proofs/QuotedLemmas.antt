@@ -27,11 +27,11 @@ unfolding hex4
 hex4-fits bytes =
     cond_both (begins_with_hex4 bytes) (Some (hex4_value bytes)) None (HexFits bytes)
     (λ h.
-        let last = and_parts _ _ h in
-        let three = and_parts _ _ last.0 in
-        let two = and_parts _ _ three.0 in
-        let one = and_parts _ _ two.0 in
-        some_hex (leb-true 4 (length bytes) one.0) (is_hex-ascii (get_or bytes 3 0) last.1))
+    let last = and_parts _ _ h in
+    let three = and_parts _ _ last.0 in
+    let two = and_parts _ _ three.0 in
+    let one = and_parts _ _ two.0 in
+    some_hex (leb-true 4 (length bytes) one.0) (is_hex-ascii (get_or bytes 3 0) last.1))
     (λ _. no_hex)
 
 -- what an escape can be: no end and no plain byte
@@ -46,11 +46,11 @@ pair_of-fits high b u bytes None two h = broken
 pair_of-fits high b u bytes (Some low) two (some_hex four ascii) =
     cond_both _ _ _ (EscapeFits (b ∷ u ∷ bytes))
     (λ _. stands_cut (record {
-        some = omega arith;
-        within = omega (arith, length-drop 2 (drop 4 bytes), length-drop 4 bytes);
-        ascii =
-            let at : get_or (drop 2 (drop 4 bytes)) 3 0 ≡ get_or bytes 9 0 = get_or-drop 2 (drop 4 bytes) 3 0 ∙ get_or-drop 4 bytes 5 0 in
-            subst (λ last. last < 128) at ascii;
+      some = omega arith;
+      within = omega (arith, length-drop 2 (drop 4 bytes), length-drop 4 bytes);
+      ascii =
+          let at : get_or (drop 2 (drop 4 bytes)) 3 0 ≡ get_or bytes 9 0 = get_or-drop 2 (drop 4 bytes) 3 0 ∙ get_or-drop 4 bytes 5 0 in
+          subst (λ last. last < 128) at ascii;
     }))
     (λ _. broken)
 
@@ -115,8 +115,8 @@ part_at-fits quote (b ∷ bytes) low =
     cond_both (eqb b quote) (quote_at quote bytes) (cond (is_escape quote b) (escape_at bytes) Plain) (PartFits quote (b ∷ bytes))
     (λ h. quote_at-fits quote b bytes low (eqb-true b quote h))
     (λ other. cond_both (is_escape quote b) (escape_at bytes) Plain (PartFits quote (b ∷ bytes))
-        (λ _. escape-part (escape_at-fits b bytes))
-        (λ no_escape. plain_fits (omega arith) (and_from _ _ (not_from_false _ other) (not_from_false _ no_escape))))
+    (λ _. escape-part (escape_at-fits b bytes))
+    (λ no_escape. plain_fits (omega arith) (and_from _ _ (not_from_false _ other) (not_from_false _ no_escape))))
 
 -- a plain byte stands for itself
 pub part_at-plain : (quote b : ℕ) (bytes : List ℕ) → is_plain quote b ≡ true → part_at quote (b ∷ bytes) ≡ Plain

@@ -21,3 +21,6 @@ pub use lexer::tokens;
 pub use token::Token;
 pub use token_kind::TokenKind;
 pub use token_list::Tokens;
+
+#[cfg(test)]
+mod tests;

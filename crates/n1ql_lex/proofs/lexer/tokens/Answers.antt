@@ -28,11 +28,10 @@ pub scan-preserved-then-is_blank : goal.scan-preserved-then-is_blank
 scan-preserved-then-is_blank c =
     let rest = c.scan.rest.now in
     let first : c.in-Some.first.now ≡ get_or rest 0 0 = c.in-Some.ensures.item.4 (omega arith) 0 ∙ ap (λ bytes. get_or bytes 0 0) c.as_bytes.ensures.value in
-    let some : 0 < length rest = omega (arith, c.in-Some.ensures.item.3.0, ap length c.as_bytes.ensures.value) in
-    (
+    let some : 0 < length rest = omega (arith, c.in-Some.ensures.item.3.0, ap length c.as_bytes.ensures.value) in (
       c.range_from-rest.utf8,
       subst (λ bytes. LexedSoFar c.args.text.now c.scan.tokens bytes) (sym c.range_from-rest.ensures.value)
-      (lexed-blank c.scan.invariant.1 some (ap is_blank (sym first) ∙ sym c.if-is_blank.ensures)),
+          (lexed-blank c.scan.invariant.1 some (ap is_blank (sym first) ∙ sym c.if-is_blank.ensures)),
     )
 
 pub range_from-rest-requires-in-Some : goal.range_from-rest-requires-in-Some
@@ -57,9 +56,8 @@ scan-preserved c =
     let t : IsToken rest c.in-Some-2.found.kind len = rw c.in-Some-2.is at c.in_ok-found.ensures in
     let place = length text - length rest in
     let tokens = c.scan.tokens ++ record { kind = c.in-Some-2.found.kind; start = place; end = place + len } ∷ [] in
-    let pushed : c.push.new.self ≡ tokens = c.in_ok-push.ensures.ok in
-    (
+    let pushed : c.push.new.self ≡ tokens = c.in_ok-push.ensures.ok in (
       c.range_from-rest-in-Some.utf8,
       subst (λ ts. LexedSoFar text ts c.range_from-rest-in-Some.result.now) (sym pushed)
-      (subst (λ bytes. LexedSoFar text tokens bytes) (sym c.range_from-rest-in-Some.ensures.value) (lexed-token c.scan.invariant.1 t)),
+          (subst (λ bytes. LexedSoFar text tokens bytes) (sym c.range_from-rest-in-Some.ensures.value) (lexed-token c.scan.invariant.1 t)),
     )

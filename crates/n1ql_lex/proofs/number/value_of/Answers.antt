@@ -15,5 +15,5 @@ returns-then-value-more c = λ small.
     let i = c.loop-digit.digit-index in
     let value = c.loop-digit.value in
     let step : value_after value (drop i digits) ≡ value_after (value * 10 + (get_or digits i 0 - 48)) (drop (i + 1) digits) =
-        at_drop_more (value_after value) digits i 0 c.loop-digit-test.true in
+    at_drop_more (value_after value) digits i 0 c.loop-digit-test.true in
     omega (arith, value_after-grows (value * 10 + (get_or digits i 0 - 48)) (drop (i + 1) digits))

@@ -16,7 +16,7 @@ returns-then-is_empty c = λ kind len name.
     let text = c.args.text.now in
     let read = rw c.in-Some.is at c.in_ok-quoted.ensures.quoted in
     let whole : IsQuoted (get_or text 0 0) (drop 1 text) c.in-Some.quoted.text c.in-Some.quoted.len =
-        subst (λ body. IsQuoted (get_or text 0 0) body c.in-Some.quoted.text c.in-Some.quoted.len) c.range_from.ensures.value
-        (subst (λ bytes. IsQuoted (get_or bytes 0 0) c.range_from.result.now c.in-Some.quoted.text c.in-Some.quoted.len) c.as_bytes.ensures.value read) in
+    subst (λ body. IsQuoted (get_or text 0 0) body c.in-Some.quoted.text c.in-Some.quoted.len) c.range_from.ensures.value
+    (subst (λ bytes. IsQuoted (get_or bytes 0 0) c.range_from.result.now c.in-Some.quoted.text c.in-Some.quoted.len) c.as_bytes.ensures.value read) in
     let empty : c.in-Some.quoted.text ≡ [] = sym c.as_str.ensures ∙ nil_from_length _ (eqb-true _ 0 (sym c.if-is_empty.ensures)) in
     name.3 (sym (quoted-same whole name.2).0 ∙ empty)

@@ -54,11 +54,10 @@ loop-text-preserved-in-Plain c =
     let len : c.plain_len.result ≡ run_len quote rest = c.plain_len.ensures ∙ ap (run_len quote) c.as_bytes-in-Plain.ensures.value in
     let left : c.split_at.result.1.now ≡ drop (run_len quote rest) rest = c.split_at.ensures.back ∙ ap (λ n. drop n rest) len in
     let front : c.split_at.result.0.now ≡ take (run_len quote rest) rest = c.split_at.ensures.front ∙ ap (λ n. take n rest) len in
-    let bytes : string_bytes c.push_str.new.self ≡ text ++ take (run_len quote rest) rest = c.in_ok-push_str-in-Plain.ensures.bytes ∙ ap (λ t. text ++ t) front in
-    (
+    let bytes : string_bytes c.push_str.new.self ≡ text ++ take (run_len quote rest) rest = c.in_ok-push_str-in-Plain.ensures.bytes ∙ ap (λ t. text ++ t) front in (
       subst IsUtf8 (sym left) (IsUtf8-drop rest (run_len quote rest) c.loop-text.invariant.0 cut),
       subst (λ t. ReadSoFar quote c.args.body.now t c.split_at.result.1.now) (sym bytes)
-      (subst (λ r. ReadSoFar quote c.args.body.now (text ++ take (run_len quote rest) rest) r) (sym left) (read-run c.loop-text.invariant.1 cut.0)),
+          (subst (λ r. ReadSoFar quote c.args.body.now (text ++ take (run_len quote rest) rest) r) (sym left) (read-run c.loop-text.invariant.1 cut.0)),
     )
 
 pub range_from-rest-requires : goal.range_from-rest-requires
@@ -89,9 +88,8 @@ loop-text-preserved c =
     let left : c.range_from-rest.result.now ≡ drop n rest = c.range_from-rest.ensures.value in
     let bytes : string_bytes c.push.new.self ≡ text ++ encode_utf8 c.in-Stands.character = c.in_ok-push-in-Stands.ensures.bytes in
     let part : part_at quote rest ≡ Stands c.in-Stands.character n = ap (part_at quote) (sym c.as_bytes.ensures.value) ∙ sym c.in-Stands.ensures in
-    let fits = stands-fits (subst (PartFits quote rest) part (part_at-fits quote rest c.requires)) in
-    (
+    let fits = stands-fits (subst (PartFits quote rest) part (part_at-fits quote rest c.requires)) in (
       subst IsUtf8 (sym left) (IsUtf8-drop rest n c.loop-text.invariant.0 (EndsInAscii-boundary rest n fits c.loop-text.invariant.0)),
       subst (λ t. ReadSoFar quote c.args.body.now t c.range_from-rest.result.now) (sym bytes)
-      (subst (λ r. ReadSoFar quote c.args.body.now (text ++ encode_utf8 c.in-Stands.character) r) (sym left) (read-stands c.loop-text.invariant.1 part fits.within)),
+          (subst (λ r. ReadSoFar quote c.args.body.now (text ++ encode_utf8 c.in-Stands.character) r) (sym left) (read-stands c.loop-text.invariant.1 part fits.within)),
     )

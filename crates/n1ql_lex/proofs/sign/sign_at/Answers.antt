@@ -20,5 +20,5 @@ returns c =
     let some : 0 < length (sign_of text) = omega arith in
     let cut : c.range.result.now ≡ take c.sign_len-len.result text = c.range.ensures.value ∙ grind arith in
     let sign : c.in_ok-of.field-0 ≡ sign_of text =
-        c.in_ok-of.ensures ∙ cut ∙ ap (λ n. take n text) len ∙ sym (sign-stands (sign_of-fits text) some).0 in
+    c.in_ok-of.ensures ∙ cut ∙ ap (λ n. take n text) len ∙ sym (sign-stands (sign_of-fits text) some).0 in
     (λ empty. let none = ap length empty in absurd (omega arith), ap Sign sign, len)
