@@ -1,5 +1,5 @@
 -- Each text has tokens or a fault.
-use Rattle.std.proofs.Common.{◌≡◌, ℕ, suc, zero, ◌+◌, ◌-◌, ◌<◌, ◌≤◌, Bool, true, false, List, [], ◌∷◌, length, get_or, drop, ◌⊎◌, sym, refl, ap, ◌∙◌, subst, inl, inr, ⊎_elim, arith, length-drop, get_or-drop}
+use Rattle.std.proofs.Common.{◌≡◌, ℕ, suc, zero, ◌+◌, ◌-◌, ◌<◌, ◌≤◌, true, false, List, [], ◌∷◌, length, get_or, drop, ◌⊎◌, sym, refl, ◌∙◌, subst, inl, inr, ⊎_elim, arith, length-drop}
 use Rattle.std.proofs.lemmas.Bool.{both_ways, cases_Bool, cases_lt}
 use Rattle.n1ql_lex.specs.declared.opening.Opening.{Opening}
 use Rattle.n1ql_lex.specs.declared.opening.Opening.TheVariants as opening

@@ -1,10 +1,9 @@
 -- The invariant of the loop in `tokens`, and what each of its steps keeps.
-use Rattle.std.proofs.Common.{◌≡◌, ℕ, ◌+◌, ◌-◌, ◌<◌, ◌≤◌, true, false, List, [], ◌∷◌, ◌++◌, length, get_or, drop, sym, refl, ap, ◌∙◌, subst, append-nil, arith, length-drop, get_or-drop, drop-drop}
+use Rattle.std.proofs.Common.{◌≡◌, ℕ, ◌+◌, ◌-◌, ◌<◌, ◌≤◌, true, false, List, [], ◌∷◌, ◌++◌, length, get_or, drop, sym, ap, ◌∙◌, subst, append-nil, arith, length-drop, get_or-drop, drop-drop}
 use Rattle.n1ql_lex.specs.declared.token.Token.{Token}
 use Rattle.n1ql_lex.specs.declared.token_kind.TokenKind.{TokenKind}
 use Rattle.n1ql_lex.specs.Bytes.{is_blank}
 use Rattle.n1ql_lex.specs.Tokens.{IsToken, IsCut, IsTokens, IsFault, none, blank, token}
-use Rattle.n1ql_lex.proofs.Cuts.{EndsInAscii}
 use Rattle.n1ql_lex.proofs.TokenLemmas.{token-ends}
 
 -- two cuts, one after the other

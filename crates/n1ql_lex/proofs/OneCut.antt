@@ -1,6 +1,6 @@
 -- A text is cut in one way: where nothing can follow, two cuts are one.
-use Rattle.std.proofs.Common.{◌≡◌, ℕ, ◌+◌, ◌-◌, ◌<◌, ◌≤◌, true, false, List, [], ◌∷◌, length, get_or, drop, sym, refl, ap, ◌∙◌, subst, ⊎_elim, arith, length-drop, get_or-drop}
-use Rattle.std.proofs.lemmas.Bool.{both_ways, cases_lt, cases_eq}
+use Rattle.std.proofs.Common.{◌≡◌, ℕ, ◌+◌, ◌<◌, ◌≤◌, true, List, [], ◌∷◌, length, get_or, drop, sym, refl, ap, ◌∙◌, subst, ⊎_elim, arith, length-drop, get_or-drop}
+use Rattle.std.proofs.lemmas.Bool.{both_ways, cases_eq}
 use Rattle.n1ql_lex.specs.declared.token.Token.{Token}
 use Rattle.n1ql_lex.specs.declared.token_kind.TokenKind.{TokenKind}
 use Rattle.n1ql_lex.specs.Bytes.{is_blank}

@@ -1,14 +1,13 @@
 -- What the definitions of quoted text give.
-use Rattle.std.proofs.Common.{◌≡◌, ℕ, suc, zero, ◌+◌, ◌-◌, ◌<◌, ◌≤◌, Bool, true, false, not, ◌&&◌, cond, List, [], ◌∷◌, ◌++◌, length, get_or, take, drop, Option, Some, None, sym, refl, ap, ◌∙◌, subst, inl, inr, ⊎_elim, arith, rules, nat_lt, nat_le, eqb, get_or-drop, length-drop}
+use Rattle.std.proofs.Common.{◌≡◌, ℕ, suc, zero, ◌+◌, ◌<◌, ◌≤◌, true, false, cond, List, [], ◌∷◌, ◌++◌, length, get_or, take, drop, Option, Some, None, sym, refl, ap, ◌∙◌, subst, ⊎_elim, arith, nat_lt, eqb, get_or-drop, length-drop}
 use Rattle.std.specs.Char.{digit_value, encode_utf8}
 use Rattle.std.specs.Char.Utf16.{is_high_surrogate, is_low_surrogate}
 use Rattle.std.specs.List.{prefix_len}
-use Rattle.std.specs.Str.{IsUtf8, IsCharBoundary}
+use Rattle.std.specs.Str.{IsCharBoundary}
 use Rattle.std.proofs.lemmas.List.Sums.{prefix_len_passes, prefix_len_stops, prefix_len-le-length, prefix_len-drop_yes}
-use Rattle.std.proofs.lemmas.Str.{IsCharBoundary-after_ascii}
-use Rattle.std.proofs.lemmas.Bool.{cond_both, cond-false, not-true, not_from_false, eqb-true, leb-true, and_parts, and_from, ltb-true, cases_lt, or_cases}
+use Rattle.std.proofs.lemmas.Bool.{cond_both, cond-false, not-true, not_from_false, eqb-true, leb-true, and_parts, and_from, cases_lt}
 use Rattle.std.proofs.lemmas.Bool.Decides.{nat_tests}
-use Rattle.n1ql_lex.proofs.Cuts.{EndsInAscii, EndsInAscii-boundary, ends_later}
+use Rattle.n1ql_lex.proofs.Cuts.{EndsInAscii, ends_later}
 use Rattle.n1ql_lex.specs.declared.quoted_part.QuotedPart.{QuotedPart}
 use Rattle.n1ql_lex.specs.declared.quoted_part.QuotedPart.TheVariants.{End, Plain, Stands, Broken}
 use Rattle.n1ql_lex.specs.Quoted.{escaped_char, begins_with_hex4, hex4_value, hex4, begins_with_u, pair_of, pair_at, unit_of, escape_of, escape_at, quote_at, is_escape, is_plain, part_at, IsQuoted, ends, plain, stands}

@@ -1,8 +1,7 @@
 -- The invariant of the loop in `quoted_text`, and what each of its steps keeps.
-use Rattle.std.proofs.Common.{◌≡◌, ℕ, ◌+◌, ◌-◌, ◌<◌, ◌≤◌, List, [], ◌∷◌, ◌++◌, length, take, drop, sym, refl, ap, ◌∙◌, subst, append_assoc, append-nil, arith, length-drop}
+use Rattle.std.proofs.Common.{◌≡◌, ℕ, ◌+◌, ◌-◌, ◌≤◌, List, [], ◌++◌, length, take, drop, sym, subst, append_assoc, append-nil, arith, length-drop}
 use Rattle.std.specs.Char.{encode_utf8}
-use Rattle.n1ql_lex.specs.declared.quoted_part.QuotedPart.{QuotedPart}
-use Rattle.n1ql_lex.specs.declared.quoted_part.QuotedPart.TheVariants.{End, Plain, Stands, Broken}
+use Rattle.n1ql_lex.specs.declared.quoted_part.QuotedPart.TheVariants.{End, Stands, Broken}
 use Rattle.n1ql_lex.specs.Quoted.{part_at, IsQuoted, ends, stands}
 use Rattle.n1ql_lex.proofs.QuotedLemmas.{run_len, quoted-after_run, quoted-past_run, quoted-at_stands, quoted-at_broken}
 

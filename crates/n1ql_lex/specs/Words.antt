@@ -1,5 +1,5 @@
 -- Words: names, and the reserved words of N1QL.
-use Rattle.std.specs.Prelude.{ℕ, List, [], ◌∷◌, map, Option, Some, None, codes, find}
+use Rattle.std.specs.Prelude.{ℕ, List, [], ◌∷◌, Option, Some, None, codes, find}
 use Rattle.std.specs.List.{take_while}
 use Rattle.std.specs.Str.{bytes_eq, str_to_ascii_uppercase}
 use Rattle.n1ql_lex.specs.declared.token_kind.TokenKind.{TokenKind}

@@ -12,15 +12,13 @@ mod quoted_text;
 mod sign;
 mod token;
 mod token_kind;
-mod token_list;
 mod word;
 
 pub use laws::{one_fault, one_token_list, spans_grow, tokens_or_fault};
 pub use lex_fault::LexFault;
 pub use lexer::tokens;
-pub use token::Token;
+pub use token::{Token, Tokens};
 pub use token_kind::TokenKind;
-pub use token_list::Tokens;
 
 #[cfg(test)]
 mod tests;

@@ -1,4 +1,5 @@
 use crate::token_kind::TokenKind;
+use n1ql_value::ListOf;
 
 /// A token and its place: the bytes of the text from `start` to before `end`.
 #[derive(Debug, Drop, PartialEq, Eq)]
@@ -7,3 +8,6 @@ pub struct Token {
     pub start: usize,
     pub end: usize,
 }
+
+/// Tokens, in the order of their places.
+pub type Tokens = ListOf<Token>;

@@ -1,6 +1,5 @@
-use Rattle.std.proofs.Common.{◌≡◌, ℕ, ◌<◌, length, get_or, sym, ap, ◌∙◌, arith}
+use Rattle.std.proofs.Common.{◌≡◌, ◌<◌, length, get_or, sym, ap, ◌∙◌, arith}
 use Rattle.std.proofs.lemmas.Result.{IfOk-weaker}
-use Rattle.n1ql_lex.specs.declared.opening.Opening.{Opening}
 use Rattle.n1ql_lex.specs.declared.opening.Opening.TheVariants as opening
 use Rattle.n1ql_lex.specs.Bytes.{opening_of}
 use Rattle.n1ql_lex.specs.Found.{IsFound, IsFoundOf}

@@ -1,11 +1,10 @@
-use Rattle.std.proofs.Common.{◌≡◌, ℕ, ◌+◌, ◌-◌, ◌<◌, ◌≤◌, true, false, List, [], ◌∷◌, ◌++◌, length, get_or, drop, sym, refl, ap, ◌∙◌, subst, arith}
-use Rattle.std.specs.Str.{IsUtf8, IsCharBoundary}
+use Rattle.std.proofs.Common.{◌≡◌, ℕ, ◌+◌, ◌-◌, ◌<◌, true, [], ◌∷◌, ◌++◌, length, get_or, sym, ap, ◌∙◌, subst, arith}
 use Rattle.std.proofs.lemmas.Bool.Decides.{nat_tests}
 use Rattle.std.proofs.lemmas.Str.{IsCharBoundary-after_ascii}
 use Rattle.n1ql_lex.specs.Bytes.{is_blank}
 use Rattle.n1ql_lex.specs.Tokens.{IsToken}
-use Rattle.n1ql_lex.proofs.Cuts.{EndsInAscii, EndsInAscii-boundary}
-use Rattle.n1ql_lex.proofs.LexedSoFar.{LexedSoFar, lexed-start, lexed-blank, lexed-token, lexed-end, lexed-fault}
+use Rattle.n1ql_lex.proofs.Cuts.{EndsInAscii-boundary}
+use Rattle.n1ql_lex.proofs.LexedSoFar.{LexedSoFar, lexed-start, lexed-blank, lexed-token}
 use Rattle.n1ql_lex.proofs.TokenLemmas.{token-ends}
 use Rattle.n1ql_lex.proofs.lexer.tokens.Goals as goal
 

@@ -1,6 +1,6 @@
-use Rattle.std.proofs.Common.{◌≡◌, ℕ, ◌+◌, ◌-◌, ◌*◌, ◌≤◌, List, [], ◌∷◌, drop, get_or, sym, ◌∙◌, arith}
+use Rattle.std.proofs.Common.{◌≡◌, ℕ, ◌+◌, ◌-◌, ◌*◌, ◌≤◌, List, [], ◌∷◌, drop, get_or, arith}
 use Rattle.std.proofs.lemmas.List.{at_drop_more}
-use Rattle.n1ql_lex.specs.Numbers.{value_after, value_of}
+use Rattle.n1ql_lex.specs.Numbers.{value_after}
 use Rattle.n1ql_lex.proofs.number.value_of.Goals as goal
 
 -- more digits make no smaller number

@@ -1,10 +1,9 @@
-use Rattle.std.proofs.Common.{◌≡◌, ℕ, ◌+◌, ◌-◌, ◌≤◌, ◌<◌, List, ◌++◌, length, take, drop, sym, refl, ap, ◌∙◌, subst, arith, length-drop}
+use Rattle.std.proofs.Common.{◌≡◌, ◌+◌, ◌-◌, ◌<◌, ◌++◌, length, take, drop, sym, refl, ap, ◌∙◌, subst, arith, length-drop}
 use Rattle.std.specs.Char.{encode_utf8}
 use Rattle.std.specs.Str.{IsUtf8, IsCharBoundary}
 use Rattle.std.specs.String.{string_bytes}
 use Rattle.std.proofs.lemmas.Str.{IsUtf8-drop}
-use Rattle.n1ql_lex.specs.declared.quoted_part.QuotedPart.{QuotedPart}
-use Rattle.n1ql_lex.specs.declared.quoted_part.QuotedPart.TheVariants.{End, Plain, Stands, Broken}
+use Rattle.n1ql_lex.specs.declared.quoted_part.QuotedPart.TheVariants.{End, Plain, Stands}
 use Rattle.n1ql_lex.specs.Quoted.{part_at, IsQuoted}
 use Rattle.n1ql_lex.proofs.Cuts.{EndsInAscii-boundary}
 use Rattle.n1ql_lex.proofs.QuotedLemmas.{PartFits, part_at-fits, end-fits, stands-fits, run_len, run_len-some, run-boundary}
