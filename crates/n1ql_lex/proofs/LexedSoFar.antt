@@ -1,9 +1,9 @@
 -- The invariant of the loop in `tokens`, and what each of its steps keeps.
-use Rattle.std.proofs.Common.{◌≡◌, ℕ, ◌+◌, ◌-◌, ◌<◌, ◌≤◌, true, false, List, [], ◌∷◌, ◌++◌, length, get_or, drop, sym, ap, ◌∙◌, subst, append-nil, arith, length-drop, get_or-drop, drop-drop}
+use Rattle.std.proofs.Common.{◌≡◌, ℕ, ◌+◌, ◌-◌, ◌<◌, ◌≤◌, true, List, [], ◌∷◌, ◌++◌, length, get_or, drop, ap, ◌∙◌, subst, append-nil, arith, length-drop, get_or-drop, drop-drop}
 use Rattle.n1ql_lex.specs.declared.token.Token.{Token}
 use Rattle.n1ql_lex.specs.declared.token_kind.TokenKind.{TokenKind}
 use Rattle.n1ql_lex.specs.Bytes.{is_blank}
-use Rattle.n1ql_lex.specs.Tokens.{IsToken, IsCut, IsTokens, IsFault, none, blank, token}
+use Rattle.n1ql_lex.specs.Tokens.{IsToken, IsCut, none, blank, token}
 use Rattle.n1ql_lex.proofs.TokenLemmas.{token-ends}
 
 -- two cuts, one after the other
@@ -59,19 +59,3 @@ module _ {text : List ℕ} {tokens : List Token} {rest : List ℕ} (so_far : Lex
   pub lexed-token : {kind : TokenKind} {len : ℕ} → IsToken rest kind len → LexedSoFar text (tokens ++ record { kind = kind; start = place; end = place + len } ∷ []) (drop len rest)
   lexed-token {kind} {len} t =
       lexed-more len _ (token-ends t).within (token len (subst (λ bytes. IsToken bytes kind len) so_far.rest_is t) none)
-
-  pub lexed-end : length rest ≡ 0 → IsTokens text tokens
-  lexed-end empty =
-      let all : place ≡ length text = omega arith in
-      subst (IsCut text 0 tokens) all so_far.cut
-
-  pub lexed-fault : 0 < length rest → is_blank (get_or rest 0 0) ≡ false → ((kind : TokenKind) (len : ℕ) → IsToken rest kind len → ⊥) → IsFault text place
-  lexed-fault some b no_token =
-      let shorter = so_far.shorter in
-      record {
-        tokens = tokens;
-        before = so_far.cut;
-        inside = omega arith;
-        no_blank = subst (λ c. is_blank c ≡ false) byte-in_text b;
-        no_token = λ kind len t. no_token kind len (subst (λ bytes. IsToken bytes kind len) (sym so_far.rest_is) t);
-      }

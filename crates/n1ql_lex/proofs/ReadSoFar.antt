@@ -1,9 +1,9 @@
 -- The invariant of the loop in `quoted_text`, and what each of its steps keeps.
 use Rattle.std.proofs.Common.{◌≡◌, ℕ, ◌+◌, ◌-◌, ◌≤◌, List, [], ◌++◌, length, take, drop, sym, subst, append_assoc, append-nil, arith, length-drop}
 use Rattle.std.specs.Char.{encode_utf8}
-use Rattle.n1ql_lex.specs.declared.quoted_part.QuotedPart.TheVariants.{End, Stands, Broken}
+use Rattle.n1ql_lex.specs.declared.quoted_part.QuotedPart.TheVariants.{End, Stands}
 use Rattle.n1ql_lex.specs.Quoted.{part_at, IsQuoted, ends, stands}
-use Rattle.n1ql_lex.proofs.QuotedLemmas.{run_len, quoted-after_run, quoted-past_run, quoted-at_stands, quoted-at_broken}
+use Rattle.n1ql_lex.proofs.QuotedLemmas.{run_len, quoted-after_run, quoted-past_run, quoted-at_stands}
 
 -- Whatever the rest stands for goes on the text so far, and nothing else does.
 pub record ReadSoFar (quote : ℕ) (body text rest : List ℕ) : Type 0 where
@@ -52,6 +52,3 @@ module _ {quote : ℕ} {body text rest : List ℕ} (so_far : ReadSoFar quote bod
       subst (λ n. IsQuoted quote body text n) (sym is)
       (subst (λ t. IsQuoted quote body t (length body - length rest + 1)) (append-nil text)
       (so_far.goes_on [] 1 (length body - length rest) (omega arith) (ends p)))
-
-  pub read-broken : part_at quote rest ≡ Broken → (whole : List ℕ) (len : ℕ) → IsQuoted quote body whole len → ⊥
-  read-broken p whole len r = let left_over = so_far.only whole len r in quoted-at_broken p left_over.2

@@ -1,11 +1,10 @@
 -- Words: names, and the reserved words of N1QL.
-use Rattle.std.specs.Prelude.{ℕ, List, [], ◌∷◌, Option, Some, None, codes, find}
+use Rattle.std.specs.Prelude.{ℕ, false, List, [], ◌∷◌, Option, Some, None, codes, find}
 use Rattle.std.specs.List.{take_while}
 use Rattle.std.specs.Str.{bytes_eq, str_to_ascii_uppercase}
 use Rattle.n1ql_lex.specs.declared.token_kind.TokenKind.{TokenKind}
 use Rattle.n1ql_lex.specs.declared.token_kind.TokenKind.TheVariants.{Word, Name}
 use Rattle.n1ql_lex.specs.Bytes.{is_word_byte}
-use mathlib.Core.Bool.{false}
 
 abbrev pub reserved_words : List (List ℕ)
 reserved_words =

@@ -1,6 +1,6 @@
 ghost use Rattle.std.specs.Prelude.{◌≡◌, ◌^◌, ◌≤◌, length, MatchOption, IsTrue, not};
 ghost use Rattle.std.specs.Option.{SomeIff};
-ghost use Rattle.std.specs.List.{prefix_len};
+ghost use Rattle.std.specs.List.{AllPass, prefix_len};
 ghost use Rattle.std.specs.Char.{is_ascii_digit};
 ghost use Rattle.n1ql_lex.specs.Found.{IsFoundOf};
 ghost use Rattle.n1ql_lex.specs.Numbers.{digits_of, goes_on, has_leading_zero, is_number, value_of};
@@ -26,11 +26,12 @@ fn digits_len(bytes: &[u8]) -> usize
 
 /// The number that digits write, `None` past the greatest.
 fn value_of(digits: &[u8]) -> Option<u64>
+    requires { AllPass is_ascii_digit digits.now }
     ensures { SomeIff result (value_of digits.now ≤ 2 ^ 63) (value_of digits.now) }
 {
     let mut value: u64 = 0;
     for digit in digits {
-        let more = u64::from(digit.saturating_sub(b'0'));
+        let more = u64::from(*digit - b'0');
         if value > (GREATEST - more) / 10 {
             return None;
         }
