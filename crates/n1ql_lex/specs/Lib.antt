@@ -1,0 +1,8 @@
+pub mod Bytes
+pub mod Words
+pub mod Numbers
+pub mod Signs
+pub mod Quoted
+pub mod Tokens
+pub mod Found
+pub mod Spans
