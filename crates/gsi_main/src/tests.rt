@@ -3,6 +3,8 @@ use crate::{
 };
 use n1ql_value::Text;
 use std::alloc::Global;
+use std::io;
+use std::io::{Read, Write};
 use std::test::Fail;
 
 const HEADER: &str = "{\"gsi\":1,\"vbuckets\":1,\"clients\":1}";
@@ -131,5 +133,56 @@ fn wrong_words(rt: HostRuntime) -> Result<(), Fail> {
         &mut SureSink::new(),
     );
     assert_eq!(rt; status, Status::Words);
+    Ok(())
+}
+
+/// A reader and writer that fails in one way.
+#[derive(Clone, Copy, Drop)]
+enum Broken {
+    ReadFails,
+    TakesNothing,
+    FlushFails,
+}
+
+impl Read for Broken {
+    fn read(&mut self, _buf: &mut [u8]) -> io::Result<usize> {
+        Err(io::Error::from(io::ErrorKind::Other))
+    }
+}
+
+impl Write for Broken {
+    fn write(&mut self, buf: &[u8]) -> io::Result<usize> {
+        match self {
+            Broken::TakesNothing => Ok(0),
+            _ => Ok(buf.len()),
+        }
+    }
+
+    fn flush(&mut self) -> io::Result<()> {
+        match self {
+            Broken::FlushFails => Err(io::Error::from(io::ErrorKind::Other)),
+            _ => Ok(()),
+        }
+    }
+}
+
+#[test]
+fn over_what_fails(rt: HostRuntime) -> Result<(), Fail> {
+    let words = words_of(rt.alloc(), "replay")?;
+    let mut source = StdSource::new(Broken::ReadFails);
+    let status = gsi_replay(
+        rt.alloc(),
+        words.as_slice(),
+        &mut source,
+        &mut SureSink::new(),
+    );
+    assert_eq!(rt; status.code(), 4);
+    for broken in [Broken::TakesNothing, Broken::FlushFails] {
+        let bytes = Vec::from_slice(rt.alloc(), HEADER.as_bytes())?;
+        let mut source = SureSource::new(rt.alloc(), bytes);
+        let mut sink = StdSink::new(broken);
+        let status = gsi_replay(rt.alloc(), words.as_slice(), &mut source, &mut sink);
+        assert_eq!(rt; status.code(), 5);
+    }
     Ok(())
 }
