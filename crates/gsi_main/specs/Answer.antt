@@ -16,9 +16,9 @@ answer_of input = answer_to (numbered_after 0 (lines_of input))
 abbrev pub for_input : List ℕ → Answer
 for_input input = if nat_le (length input) INPUT_LIMIT then answer_of input else too_large Input INPUT_LIMIT
 
--- the function gives the answer, or memory ran out
+-- the function gives the answer, or memory ran out; whoever reads the input sees that it is no longer than the limit
 abbrev pub Gives : Answer → Result (Vec ℕ Global) Refusal → Type 0
 Gives answer (Ok text) = answer ≡ report text.items
 Gives answer (Err (BadLine line kind)) = answer ≡ bad_line line kind
-Gives answer (Err (TooLarge what limit)) = answer ≡ too_large what limit
+Gives answer (Err (TooLarge what limit)) = (answer ≡ too_large what limit) × ¬ (what ≡ Input)
 Gives answer (Err Memory) = ⊤

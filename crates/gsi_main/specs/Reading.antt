@@ -9,10 +9,14 @@ pub record ReadWhole (limit : ℕ) (left left' : Option (List ℕ)) (faults faul
   pub at_end : IsAtEnd left'
   pub kept : faults' ≡ faults
 
+-- one byte past the limit was taken
+abbrev pub TookPast : ℕ → Option (List ℕ) → Option (List ℕ) → Type 0
+TookPast limit left left' = (bytes : List ℕ) × (length bytes ≡ limit + 1) × Consumes left left' bytes
+
 -- one byte past the limit was read, and no read failed
 pub record ReadPast (limit : ℕ) (left left' : Option (List ℕ)) (faults faults' : ℕ) : Type 0 where
   pub input : IfSome left (λ all. limit < length all)
-  pub taken : (bytes : List ℕ) × (length bytes ≡ limit + 1) × Consumes left left' bytes
+  pub taken : TookPast limit left left'
   pub kept : faults' ≡ faults
 
 -- n more bytes, no more than there was room for, were read and stand behind the others; none only at the end

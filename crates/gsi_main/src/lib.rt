@@ -17,6 +17,8 @@ mod std_sink;
 mod std_source;
 mod sure_sink;
 mod sure_source;
+#[cfg(test)]
+mod tests;
 mod what;
 mod writing;
 

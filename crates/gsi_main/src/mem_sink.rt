@@ -67,7 +67,8 @@ impl Sink for MemSink {
         ensures told { Contains self.old.fails (next_count self.old.calls) → IsErr result }
         ensures taken { IfOk result (λ n. n ≡ min self.old.most (length piece.now)) }
         ensures numbered { self.new.calls ≡ next_count self.old.calls }
-        ensures same { (self.new.most ≡ self.old.most) × (self.new.fails ≡ self.old.fails) }
+        ensures most { self.new.most ≡ self.old.most }
+        ensures fails { self.new.fails ≡ self.old.fails }
     {
         self.calls = self.calls.saturating_add(1);
         let count = self.most.min(piece.len());

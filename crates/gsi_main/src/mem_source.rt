@@ -60,7 +60,8 @@ impl Source for MemSource {
         ensures told { IsErr result ↔ Contains self.old.fails (next_count self.old.calls) }
         ensures given { IfOk result (λ n. n ≡ given self.old (length buf.old)) }
         ensures numbered { self.new.calls ≡ next_count self.old.calls }
-        ensures same { (self.new.most ≡ self.old.most) × (self.new.fails ≡ self.old.fails) }
+        ensures most { self.new.most ≡ self.old.most }
+        ensures fails { self.new.fails ≡ self.old.fails }
     {
         self.calls = self.calls.saturating_add(1);
         if self.fails.contains(&self.calls) {

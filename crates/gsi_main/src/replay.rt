@@ -1,6 +1,7 @@
 ghost use Rattle.std.specs.Prelude.{◌≡◌, ◌<◌, ◌↔◌, IfSome, IsTrue};
 ghost use Rattle.gsi_main.specs.Answer.{for_input};
 ghost use Rattle.gsi_main.specs.Faults.{Rose};
+ghost use Rattle.gsi_main.specs.Reading.{TookPast};
 ghost use Rattle.gsi_main.specs.Replay.{IsReplay, IsFor, Replayed, PartlyReplayed};
 
 use crate::reading::{INPUT_LIMIT, Unread, read_input};
@@ -26,6 +27,8 @@ pub fn gsi_replay<S: Source, K: Sink>(
         Replayed (S.left source.old) (S.left source.new) (K.held sink.old) (K.held sink.new) }
     ensures exact { IsReplay words.now → IfSome (S.left source.old) (λ input. IsFor result (for_input input)) }
     ensures words { (result ≡ Status.Words) ↔ ¬ IsReplay words.now }
+    ensures past_limit { result ≡ Status.TooLarge What.Input INPUT_LIMIT →
+        TookPast INPUT_LIMIT (S.left source.old) (S.left source.new) }
     ensures read_fault { result ≡ Status.ReadFault → Rose (S.faults source.old) (S.faults source.new) }
     ensures read_grew { S.faults source.old < S.faults source.new → result ≡ Status.ReadFault }
     ensures write_fault { result ≡ Status.WriteFault → Rose (K.faults sink.old) (K.faults sink.new) }
