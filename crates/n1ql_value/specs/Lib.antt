@@ -12,3 +12,4 @@ pub mod Ranges
 pub mod RowLaws
 pub mod SortedLists
 pub mod Places
+pub mod Functions
