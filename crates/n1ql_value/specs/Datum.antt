@@ -1,5 +1,6 @@
 -- What contracts see of a value.
-use Rattle.std.specs.Prelude.{◌≡◌, ℕ, List}
+use Rattle.std.specs.Prelude.{◌≡◌, ℕ, List, refl}
+use Rattle.std.proofs.Common.{ap, ◌∙◌}
 use Rattle.n1ql_value.specs.declared.datum.Datum.{Datum, out-Datum}
 use Rattle.n1ql_value.specs.declared.datum.Datum.TheOpen.{Datum-F}
 use Rattle.n1ql_value.specs.declared.datum.Datum.TheVariants as datum
@@ -40,3 +41,28 @@ out_datum_of (Int z) = datum.outs-Int z
 out_datum_of (Text t) = datum.outs-Text t
 out_datum_of (Array ds) = datum.outs-Array ds
 out_datum_of (Object ps) = datum.outs-Object ps
+
+-- the value with this layer, and the value that data stands for
+abbrev pub value_with : Datum-F Datum → Value
+value_with Datum-F.Missing = Missing
+value_with Datum-F.Null = Null
+value_with (Datum-F.Bool b) = Bool b
+value_with (Datum-F.Int z) = Int z
+value_with (Datum-F.Text t) = Text t
+value_with (Datum-F.Array ds) = Array ds
+value_with (Datum-F.Object ps) = Object ps
+
+abbrev pub value_of : Datum → Value
+value_of d = value_with (out-Datum d)
+
+with_own_layer : (v : Value) → value_with (layer_of v) ≡ v
+with_own_layer Missing = refl
+with_own_layer Null = refl
+with_own_layer (Bool b) = refl
+with_own_layer (Int z) = refl
+with_own_layer (Text t) = refl
+with_own_layer (Array ds) = refl
+with_own_layer (Object ps) = refl
+
+pub value_of-datum_of : (v : Value) → value_of (datum_of v) ≡ v
+value_of-datum_of v = ap value_with (out_datum_of v) ∙ with_own_layer v

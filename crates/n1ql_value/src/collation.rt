@@ -92,7 +92,7 @@ fn collate_objects(a: &[(Text, Value)], b: &[(Text, Value)]) -> Ordering
     ensures { result ≡ ordering_then (nat_cmp (length a.now) (length b.now))
         (slice_cmp (pair_cmp value_cmp) (map pair_of a.now) (map pair_of b.now)) }
 {
-    match a.len().cmp(&b.len()) {
+    match usize::cmp(&a.len(), &b.len()) {
         Ordering::Equal => collate_entries(a, b),
         order => order,
     }
