@@ -79,3 +79,9 @@ pub fn last_mutation_counts()
         → IsNumbered n log → 0 < n
         → get (documents_at log (high_of n log)) id ≡ body_of (current_of log id) }
 {}
+
+/// Law of the newest documents: at the newest numbers all mutations have come.
+pub fn newest_documents()
+    ensures { (n : ℕ) (log : List Mutation)
+        → IsNumbered n log → 0 < n → documents_at log (high_of n log) ≡ with_mutations empty log }
+{}
