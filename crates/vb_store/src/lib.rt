@@ -29,8 +29,6 @@ mod tests {
         Ok((mutation.vb, mutation.seqno))
     }
 
-    fn may_be_sent<T: Send>(_: &T) {}
-
     // The ids d, c, b and a go to the vBuckets 3, 2, 1 and 0 of four.
     #[test]
     fn mutations_are_numbered_by_vbucket(rt: HostRuntime) -> Result<(), Memory> {
@@ -51,7 +49,6 @@ mod tests {
         assert_eq!(rt; store.current("d").map(|m| m.seqno), Some(2));
         assert!(rt; store.current("e").is_none());
         assert_eq!(rt; store.get(0).map(|m| m.vb), Some(3));
-        may_be_sent(&store);
         Ok(())
     }
 
