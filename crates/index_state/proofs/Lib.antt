@@ -1,3 +1,3 @@
 mod EntryLemmas
-mod StateLemmas
+pub mod StateLemmas
 mod KeyLemmas

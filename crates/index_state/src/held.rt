@@ -21,7 +21,8 @@ fn exchange(
     id: &Text,
     rows: &Rows,
 ) -> Result<(), Memory>
-    ensures ok { OnOk result (all.new ≡ with_all row_cmp rows.now (without_all row_cmp (rows_at (held_by by_id.now) id.now) all.old)) }
+    ensures ok { OnOk result (all.new ≡
+        with_all row_cmp rows.now (without_all row_cmp (rows_at (held_by by_id.now) id.now) all.old)) }
     ensures err { OnErr result (all.new ≡ all.old) }
 {
     match by_id.get(id) {

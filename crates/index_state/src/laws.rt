@@ -19,12 +19,14 @@ pub fn nothing_is_the_index_of_nothing()
 
 /// A document comes, in place of the one that its id had: its rows are put under the id.
 pub fn a_document_comes()
-    ensures { (keys : List ℕ → Value → List Row) (docs : Documents) (held : RowsById) (id : List ℕ) (doc : Value) →
-        HoldsKeys keys docs held → HoldsKeys keys (map.insert docs id doc) (with_rows held id (keys id doc)) }
+    ensures { (keys : List ℕ → Value → List Row) (docs : Documents) (held : RowsById)
+        (id : List ℕ) (doc : Value) → HoldsKeys keys docs held →
+        HoldsKeys keys (map.insert docs id doc) (with_rows held id (keys id doc)) }
 {}
 
 /// A document goes: its id is dropped.
 pub fn a_document_goes()
-    ensures { (keys : List ℕ → Value → List Row) (docs : Documents) (held : RowsById) (id : List ℕ) →
-        HoldsKeys keys docs held → HoldsKeys keys (map.remove docs id) (map.remove held id) }
+    ensures { (keys : List ℕ → Value → List Row) (docs : Documents) (held : RowsById)
+        (id : List ℕ) → HoldsKeys keys docs held →
+        HoldsKeys keys (map.remove docs id) (map.remove held id) }
 {}

@@ -15,7 +15,7 @@ use Rattle.n1ql_value.specs.RowLaws.{row_cmp-total, row_cmp-exact}
 use Rattle.n1ql_value.specs.SortedLists.{insert_sorted, without_one, with_all, without_all}
 use Rattle.n1ql_value.proofs.SortedListLaws.{IsPartitionedBy-below, insert-place, remove-place, with_all-append, without_all-push, none_ties, none_ties_not_contained, without_one-absent, equal_of}
 use Rattle.n1ql_value.specs.declared.range.Range.{Range}
-use Rattle.index_tree.specs.Shared.{rows_in}
+use Rattle.index_tree.specs.Shared.{rows_in, IsPlaceOf}
 use Rattle.index_tree.specs.Range.{range_of}
 use Rattle.n1ql_value.specs.Ranges.{some_span_holds}
 
@@ -43,10 +43,6 @@ module _ {X Y : Type 0} (f : X → Y) where
       let at_j : get_or (map f xs) j (f d) ≡ f (get_or xs j d) = get_or-map f xs j d (f d) h in
       let at_i : get_or (map f xs) i (f d) ≡ f (get_or xs i d) = get_or-map f xs i d (f d) (omega arith) in
       subst (λ y. p y ≡ true) at_i (parted i j (f d) le (rw length-map h) (subst (λ y. p y ≡ true) (sym at_j) e))
-
--- the front of the shared rows, up to i, is below the row, and the rest isn't
-abbrev pub IsPlaceOf : List (Arc Row Global) → Row → ℕ → Type 0
-IsPlaceOf shared row i = IsPartitionPoint (λ held. is_lt (row_cmp held row) ≡ true) (λ held. is_lt (row_cmp held row) ≡ false) (rows_in shared) i
 
 pub parted : (shared : List (Arc Row Global)) (row : Row) → IsSorted row_cmp (rows_in shared) → IsPartitionedBy (λ held. is_lt (row_cmp (arc_value held) row)) shared
 parted shared row s = IsPartitionedBy-from_map arc_value (λ held. is_lt (row_cmp held row)) shared (IsPartitionedBy-below row_cmp-total row (rows_in shared) s)

@@ -1,11 +1,10 @@
 // Where a row stands in a list in order, found by halving. Nothing here is done once for each row but the one shift.
-ghost use Rattle.std.specs.Prelude.{◌≡◌, ◌<◌, ◌≤◌, ◌+◌, ◌↔◌, true, false, length, vec_len, vec_capacity, IsTrue, IsOk, OnOk, OnErr, Contains};
+ghost use Rattle.std.specs.Prelude.{◌≡◌, ◌<◌, ◌≤◌, ◌+◌, ◌↔◌, length, vec_len, vec_capacity, IsTrue, IsOk, OnOk, OnErr, Contains};
 ghost use Rattle.std.specs.Bool.{OnFalse};
-ghost use Rattle.std.specs.Ordering.{is_lt};
-ghost use Rattle.std.specs.List.Sorted.{IsSorted, IsPartitionPoint};
+ghost use Rattle.std.specs.List.Sorted.{IsSorted};
 ghost use Rattle.n1ql_value.specs.Collation.{row_cmp};
 ghost use Rattle.n1ql_value.specs.SortedLists.{insert_sorted, without_one};
-ghost use Rattle.index_tree.specs.Shared.{rows_in};
+ghost use Rattle.index_tree.specs.Shared.{rows_in, IsPlaceOf};
 
 use n1ql_value::{Memory, Row, collate_rows};
 use std::sync::Arc;
@@ -14,7 +13,7 @@ use std::sync::Arc;
 fn place_of(rows: &[Arc<Row>], row: &Row) -> usize
     requires { IsSorted row_cmp (rows_in rows.now) }
     ensures bound { result ≤ length rows.now }
-    ensures point { IsPartitionPoint (λ held. is_lt (row_cmp held row.now) ≡ true) (λ held. is_lt (row_cmp held row.now) ≡ false) (rows_in rows.now) result }
+    ensures point { IsPlaceOf rows.now row.now result }
 {
     rows.partition_point(|held| collate_rows(held, row).is_lt())
 }
