@@ -2,3 +2,5 @@ mod Members
 mod Outcomes
 mod Layers
 mod Laws
+mod Held
+mod Back

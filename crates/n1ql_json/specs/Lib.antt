@@ -1,3 +1,4 @@
 pub mod Json
 pub mod Reads
 pub mod Missing
+pub mod Valid
