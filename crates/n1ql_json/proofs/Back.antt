@@ -1,19 +1,23 @@
 -- The JSON of a value stands for the value.
-use Rattle.std.proofs.Common.{◌≡◌, ◌^◌, ℕ, ℤ, suc, max, pos, negsuc, List, [], ◌∷◌, map, Bool, true, false, ◌&&◌, ◌||◌, Some, None, cond, ltb, nat_lt, option_map, option_and_then, refl, sym, ap, ap₂, ◌∙◌, subst}
-use Rattle.std.proofs.lemmas.Bool.{or_parts, false≢true, true≢false}
-use Rattle.serde_json.specs.Data.{Data, number, array, object, Items, no_items, item, Members, no_members, member, depth as json_depth, items_depth, members_depth}
+use Rattle.std.proofs.Common.{◌≡◌, ◌≤◌, ℕ, arith, ℤ, suc, max, pos, negsuc, List, [], ◌∷◌, map, Bool, true, false, Some, None, cond, option_map, refl, sym, ap, ap₂, ◌∙◌}
+use Rattle.std.proofs.lemmas.Bool.{or_parts, true≢false}
+use Rattle.serde_json.specs.Data.{Data, depth as json_depth, items_depth, members_depth}
 use Rattle.serde_json.specs.Find.{of_integer, as_i64}
 use Rattle.serde_json.specs.View.{items_of}
-use Rattle.n1ql_value.specs.declared.datum.Datum.{Datum, fold-Datum, roll-Datum, fold-roll-Datum}
+use Rattle.n1ql_value.specs.declared.datum.Datum.{Datum, roll-Datum, fold-roll-Datum}
 use Rattle.n1ql_value.specs.declared.datum.Datum.TheVariants as datum
 use Rattle.n1ql_value.specs.declared.datum.Datum.TheVariants.{rolls-Null, rolls-Bool, rolls-Int, rolls-Text, rolls-Array, rolls-Object}
 use Rattle.n1ql_value.specs.declared.datum.Datum.TheOpen.{Datum-F}
 use Rattle.n1ql_value.specs.declared.datum.Datum.TheFolds.{map-Datum}
 use Rattle.n1ql_value.specs.Depth.{largest, depth, depth_step}
-use Rattle.n1ql_json.specs.Json.{json_of, json_layer, json_pair, members_with}
+use Rattle.n1ql_json.specs.Json.{json_of, json_layer, json_pair, members_with, text_of}
 use Rattle.n1ql_json.specs.Missing.{some_true, missing_in_layer, has_missing}
-use Rattle.n1ql_json.specs.Reads.{value_read, items_read, members_read}
-use Rattle.n1ql_json.specs.Valid.{all_true, is_int64, names_grow, is_pair, is_value_layer, is_value}
+use Rattle.n1ql_json.specs.Reads.{value_read, items_read, members_read, number_checked, read_of}
+use Rattle.n1ql_json.specs.ReadBack.{IsReadBack}
+use Rattle.std.specs.Str.{IsUtf8}
+use Rattle.serde_json.specs.Read as serde_json
+use Rattle.n1ql_json.proofs.Outcomes.{reads_as}
+use Rattle.n1ql_json.specs.Valid.{all_true, is_int64, is_pair, is_value_layer, is_value}
 use Rattle.n1ql_json.proofs.Laws.{json_of-roll, by_layers}
 use Rattle.n1ql_json.proofs.Held.{pair_test, and_parts}
 
@@ -97,3 +101,9 @@ pub value_read-json_of : (d : Datum) → is_value d ≡ true → has_missing d �
 value_read-json_of = by_layers IsBack (λ y h k.
     let x = map-Datum Back Datum whole y in
     ap value_read (json_of-roll x) ∙ layer_back y (sym (fold-roll-Datum Bool is_value_layer x) ∙ h) (sym (fold-roll-Datum Bool missing_in_layer x) ∙ k))
+
+-- the text of a value is read back as the value
+pub read_back : (d : Datum) (text : List ℕ) → text ≡ text_of d → IsUtf8 text → (json_depth (json_of d) ≤ serde_json.max_depth → serde_json.read text ≡ Some (json_of d)) → is_value d ≡ true → IsReadBack d
+read_back d text is utf8 reads held none shallow =
+    let found : serde_json.read text ≡ Some (json_of d) = reads (omega (arith, depth-json_of d)) in
+    ap read_of (sym is) ∙ (reads_as text (json_of d) utf8 found ∙ ap number_checked (value_read-json_of d held none))

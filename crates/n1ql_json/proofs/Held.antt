@@ -6,8 +6,7 @@ use Rattle.std.specs.Str.{IsUtf8, is_utf8}
 use Rattle.std.proofs.lemmas.Bool.{false≢true}
 use Rattle.std.proofs.lemmas.Bool.Decides.{nat_tests}
 use Rattle.std.proofs.lemmas.Str.{is_utf8-from_IsUtf8}
-use Rattle.std.specs.Ordering.{nat_cmp, is_lt}
-use Rattle.std.specs.Cmp.Lexicographic.{slice_cmp}
+use Rattle.std.specs.Ordering.{is_lt}
 use Rattle.n1ql_value.specs.declared.datum.Datum.{Datum, fold-roll-Datum}
 use Rattle.n1ql_value.specs.declared.datum.Datum.TheVariants as datum
 use Rattle.n1ql_value.specs.declared.datum.Datum.TheVariants.{rolls-Object}

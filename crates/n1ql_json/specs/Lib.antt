@@ -2,3 +2,4 @@ pub mod Json
 pub mod Reads
 pub mod Missing
 pub mod Valid
+pub mod ReadBack

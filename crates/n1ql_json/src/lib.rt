@@ -4,6 +4,8 @@
 
 mod fault;
 mod reading;
+#[cfg(test)]
+mod tests;
 mod writing;
 
 pub use fault::JsonFault;

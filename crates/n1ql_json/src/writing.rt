@@ -3,6 +3,7 @@ ghost use Rattle.serde_json.specs.View.{view, items_of, items_view, members_view
 ghost use Rattle.n1ql_value.specs.declared.datum.Datum.TheVariants as datum;
 ghost use Rattle.n1ql_value.specs.Datum.{datum_of};
 ghost use Rattle.n1ql_json.specs.Json.{json_of, json_pair, members_with, text_of};
+ghost use Rattle.n1ql_json.specs.ReadBack.{IsReadBack};
 ghost use Rattle.n1ql_json.specs.Valid.{all_true, is_value};
 
 use n1ql_value::{Memory, Pairs, Value};
@@ -17,6 +18,7 @@ use std::alloc::Global;
 pub fn write(value: &Value, out: &mut Vec<u8>) -> Result<(), Memory>
     ensures ok { OnOk result (out.new.items ≡ out.old.items ++ text_of (datum_of value.now)) }
     ensures err { OnErr result (out.new.items ≡ out.old.items) }
+    ensures reads_back { OnOk result (IsReadBack (datum_of value.now)) }
 {
     let alloc = *out.allocator();
     let json = json_value(alloc, value)?;
