@@ -18,7 +18,7 @@ use Rattle.std.specs.Str.{IsUtf8}
 use Rattle.serde_json.specs.Read as serde_json
 use Rattle.n1ql_json.proofs.Outcomes.{reads_as}
 use Rattle.n1ql_json.specs.Valid.{all_true, is_int64, is_pair, is_value_layer, is_value}
-use Rattle.n1ql_json.proofs.Laws.{json_of-roll, by_layers}
+use Rattle.n1ql_json.proofs.Floats.{json_of-roll, by_layers}
 use Rattle.n1ql_json.proofs.Held.{pair_test, and_parts}
 
 -- ---- as deep as the value

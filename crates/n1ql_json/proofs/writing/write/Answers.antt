@@ -4,7 +4,7 @@ use Rattle.serde_json.specs.Read.{max_depth}
 use Rattle.serde_json.specs.Written.{has_float, compact_text}
 use Rattle.n1ql_value.specs.Datum.{datum_of}
 use Rattle.n1ql_json.proofs.Back.{read_back}
-use Rattle.n1ql_json.proofs.Laws.{no_float}
+use Rattle.n1ql_json.proofs.Floats.{no_float}
 use Rattle.n1ql_json.proofs.writing.write.Goals as goal
 
 pub returns-clause-ok : goal.returns-clause-ok
