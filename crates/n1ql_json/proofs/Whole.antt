@@ -1,8 +1,7 @@
 -- The text of a value is UTF-8, and JSON that reads as what was written.
-use Rattle.std.proofs.Common.{◌≡◌, ◌≤◌, ◌<◌, ◌^◌, ℕ, ℤ, suc, max, pos, negsuc, List, [], ◌∷◌, ◌++◌, map, Bool, true, false, ◌&&◌, Some, None, cond, decimal, option_map, option_and_then, IsUtf8, Less, Equal, Greater, nat_cmp, refl, sym, ap, ap₂, ◌∙◌, subst, arith, append_assoc, append-nil}
+use Rattle.std.proofs.Common.{◌≡◌, ◌≤◌, ◌<◌, ◌^◌, ℕ, ℤ, suc, max, pos, negsuc, List, [], ◌∷◌, ◌++◌, map, Bool, true, false, Some, decimal, option_map, option_and_then, IsUtf8, Less, Equal, Greater, nat_cmp, refl, sym, ap, ap₂, ◌∙◌, subst, arith, append_assoc, append-nil}
 use Rattle.std.specs.Prelude.{⊤, nat_lt}
 use Rattle.std.specs.Str.{is_utf8}
-use Rattle.std.specs.Fmt.{signed_decimal}
 use Rattle.std.specs.Ordering.{is_lt, ordering_reverse}
 use Rattle.std.specs.declared.cmp.Ordering.{Ordering}
 use Rattle.std.specs.Cmp.Lexicographic.{slice_cmp}
@@ -13,24 +12,24 @@ use Rattle.std.proofs.lemmas.Fmt.{IsAscii-decimal}
 use Rattle.std.proofs.lemmas.Str.{IsUtf8-append, IsUtf8-nil, IsUtf8-from_ascii, IsUtf8-from_is_utf8}
 use Rattle.json.specs.Json as json
 use Rattle.json.specs.Lex.{tokens}
-use Rattle.json.specs.Print.{IsNumber, quoted}
+use Rattle.json.specs.Print.{quoted}
 use Rattle.json.specs.Tree as tree
 use Rattle.json.specs.Tree.{HasNumbers, ItemsHaveNumbers, MembersHaveNumbers, json_tokens}
 use Rattle.json.proofs.Printed.Decimals.{IsNumber-decimal, IsNumber-signed_decimal}
 use Rattle.json.proofs.Printed.Tokens.{tokens-print}
 use Rattle.json.proofs.Printed.Trees.{value-json_tokens, ArePrintable-json_tokens}
 use Rattle.json.proofs.Printed.Utf8.{IsUtf8-quoted, IsUtf8-boolean, IsUtf8-are_ascii}
-use Rattle.serde_json.specs.Data.{Num, Data, null, boolean, number, string, array, object, Items, no_items, item, Members, no_members, member, put, depth as json_depth, items_depth, members_depth}
+use Rattle.serde_json.specs.Data.{Data, null, boolean, number, string, array, object, Items, no_items, item, Members, no_members, member, put, depth as json_depth, items_depth, members_depth}
 use Rattle.serde_json.specs.Find.{of_integer}
-use Rattle.serde_json.specs.Read.{max_depth, number_of, of_json, of_items, of_members, read}
+use Rattle.serde_json.specs.Read.{max_depth, of_json, of_items, of_members, read}
 use Rattle.serde_json.specs.View.{items_of}
-use Rattle.serde_json.specs.Written.{number_text, outline, items_outline, members_outline, compact_text, items_text, members_text, comma_if}
+use Rattle.serde_json.specs.Written.{outline, items_outline, members_outline, compact_text, items_text, members_text, comma_if}
 use Rattle.serde_json.proofs.Numbers.{number_of-decimal, number_of-negative}
 use Rattle.serde_json.proofs.Texts.{print-outline}
-use Rattle.n1ql_value.specs.declared.datum.Datum.{Datum, fold-roll-Datum, roll-Datum}
+use Rattle.n1ql_value.specs.declared.datum.Datum.{Datum, fold-roll-Datum}
 use Rattle.n1ql_value.specs.declared.datum.Datum.TheOpen.{Datum-F}
 use Rattle.n1ql_value.specs.declared.datum.Datum.TheFolds.{map-Datum}
-use Rattle.n1ql_value.specs.Names.{IsBelowFirst, NamesGrow}
+use Rattle.n1ql_value.specs.Names.{NamesGrow}
 use Rattle.n1ql_json.specs.Json.{json_of, json_layer, json_pair, members_with, text_of}
 use Rattle.n1ql_json.specs.ReadBack.{IsReadBack}
 use Rattle.n1ql_json.specs.Valid.{all_true, is_int64, is_below_first, names_grow, is_pair, is_value_layer, is_value}
