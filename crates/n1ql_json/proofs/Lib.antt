@@ -1,4 +1,7 @@
 mod Members
 mod Outcomes
 mod Layers
-mod Laws
+mod Floats
+mod Held
+mod Back
+mod Whole

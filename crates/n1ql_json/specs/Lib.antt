@@ -1,3 +1,5 @@
 pub mod Json
 pub mod Reads
 pub mod Missing
+pub mod Valid
+pub mod ReadBack

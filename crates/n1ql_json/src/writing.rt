@@ -1,9 +1,10 @@
-ghost use Rattle.std.specs.Prelude.{◌≡◌, ◌++◌, map, IfOk, OnOk, OnErr};
-ghost use Rattle.serde_json.specs.Data.{Members};
+ghost use Rattle.std.specs.Prelude.{◌≡◌, ◌++◌, true, map, IfOk, OnOk, OnErr};
 ghost use Rattle.serde_json.specs.View.{view, items_of, items_view, members_view};
-ghost use Rattle.n1ql_value.specs.Datum.{datum_of, pair_of};
-ghost use Rattle.n1ql_value.specs.Names.{NamesGrow};
+ghost use Rattle.n1ql_value.specs.declared.datum.Datum.TheVariants as datum;
+ghost use Rattle.n1ql_value.specs.Datum.{datum_of};
 ghost use Rattle.n1ql_json.specs.Json.{json_of, json_pair, members_with, text_of};
+ghost use Rattle.n1ql_json.specs.ReadBack.{IsReadBack};
+ghost use Rattle.n1ql_json.specs.Valid.{all_true, is_value};
 
 use n1ql_value::{Memory, Pairs, Value};
 use serde_json::{Map, Value as Json};
@@ -17,6 +18,7 @@ use std::alloc::Global;
 pub fn write(value: &Value, out: &mut Vec<u8>) -> Result<(), Memory>
     ensures ok { OnOk result (out.new.items ≡ out.old.items ++ text_of (datum_of value.now)) }
     ensures err { OnErr result (out.new.items ≡ out.old.items) }
+    ensures reads_back { OnOk result (IsReadBack (datum_of value.now)) }
 {
     let alloc = *out.allocator();
     let json = json_value(alloc, value)?;
@@ -28,7 +30,8 @@ pub fn write(value: &Value, out: &mut Vec<u8>) -> Result<(), Memory>
 /// The value as JSON.
 #[cycle(json)]
 fn json_value(alloc: Global, value: &Value) -> Result<Json, Memory>
-    ensures { IfOk result (λ j. view j ≡ json_of (datum_of value.now)) }
+    ensures json { IfOk result (λ j. view j ≡ json_of (datum_of value.now)) }
+    ensures held { OnOk result (is_value (datum_of value.now) ≡ true) }
 {
     match value {
         Value::Missing => Ok(Json::Null),
@@ -44,7 +47,8 @@ fn json_value(alloc: Global, value: &Value) -> Result<Json, Memory>
 /// The items of an array as JSON.
 #[cycle(json)]
 fn json_items(alloc: Global, items: &[Value]) -> Result<Vec<Json>, Memory>
-    ensures { IfOk result (λ v. items_view v.items ≡ items_of (map json_of (map datum_of items.now))) }
+    ensures json { IfOk result (λ v. items_view v.items ≡ items_of (map json_of (map datum_of items.now))) }
+    ensures held { OnOk result (all_true (map is_value (map datum_of items.now)) ≡ true) }
 {
     let mut found = Vec::with_capacity(alloc, items.len())?;
     for item in items {
@@ -56,7 +60,8 @@ fn json_items(alloc: Global, items: &[Value]) -> Result<Vec<Json>, Memory>
 /// The pairs of an object as its members.
 #[cycle(json)]
 fn json_members(alloc: Global, pairs: &Pairs) -> Result<Map<String, Json>, Memory>
-    ensures { IfOk result (λ m. members_view m.entries ≡ members_with (map json_pair pairs.now)) }
+    ensures json { IfOk result (λ m. members_view m.entries ≡ members_with (map json_pair pairs.now)) }
+    ensures held { OnOk result (is_value (datum.Object pairs.now) ≡ true) }
 {
     let mut found = Map::new(alloc);
     for (name, value) in pairs.as_slice() {

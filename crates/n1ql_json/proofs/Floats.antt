@@ -1,4 +1,4 @@
--- The JSON of a value has no floats, and stands for the value.
+-- The JSON of a value has no floats.
 use Rattle.std.proofs.Common.{◌≡◌, ℕ, ℤ, pos, negsuc, List, [], ◌∷◌, map, false, refl, ap, ◌∙◌, subst}
 use Rattle.serde_json.specs.Data.{Data}
 use Rattle.serde_json.specs.Find.{of_integer, is_float}
@@ -9,7 +9,7 @@ use Rattle.n1ql_value.specs.declared.datum.Datum.TheOpen.{Datum-F}
 use Rattle.n1ql_value.specs.declared.datum.Datum.TheFolds.{map-Datum, ind-Datum}
 use Rattle.n1ql_json.specs.Json.{json_of, json_layer, json_pair, members_with}
 
-json_of-roll : (x : Datum-F Datum) → json_of (roll-Datum x) ≡ json_layer (map-Datum Datum Data json_of x)
+pub json_of-roll : (x : Datum-F Datum) → json_of (roll-Datum x) ≡ json_layer (map-Datum Datum Data json_of x)
 json_of-roll x = fold-roll-Datum Data json_layer x
 
 -- an induction over values: what holds of a value whenever it holds of all below it
