@@ -1,0 +1,4 @@
+mod Applied
+mod Histories
+mod Shown
+mod Runs

@@ -1,0 +1,74 @@
+-- What the replay has made so far, held to the history that it has given. For private clauses.
+use Rattle.std.specs.Prelude.{◌≡◌, ℕ, ◌≤◌, List, [], ◌∷◌, length, take, true, Option, Some, None, ⊤}
+use Rattle.std.specs.Arc.{arc_value}
+use Rattle.std.specs.List.{AllByRecursion}
+use Rattle.std.specs.FinMap as map
+use Rattle.std.specs.declared.sync.Arc.{Arc}
+use Rattle.std.specs.declared.alloc.Global.{Global}
+use Rattle.seq_vector.specs.Vectors.{IsCovered}
+use Rattle.vb_store.specs.declared.mutation.Mutation.{Mutation}
+use Rattle.vb_store.specs.Mutations.{high_of}
+use Rattle.vb_store.specs.Documents.{with_mutations, documents_at}
+use Rattle.index_state.specs.Keys.{keys_of}
+use Rattle.index_state.specs.Index.{index_of, HoldsKeys}
+use Rattle.scan_history.specs.declared.script.Script.{Script}
+use Rattle.scan_history.specs.Events.{Event, mutate, define, publish, online, start, answer}
+use Rattle.scan_history.specs.Fold.{nothing, Index, State, state_after}
+use Rattle.scan_history.specs.Answers.{answers_of}
+use Rattle.gsi_sched.specs.Replay.{after_actions}
+use Rattle.gsi_sched.specs.declared.built.Built.{Built}
+use Rattle.gsi_sched.specs.declared.machine.Machine.{Machine}
+
+-- a vector that the newest numbers cover
+pub record IsReachedAt (n : ℕ) (log : List Mutation) (v : List ℕ) : Type 0 where
+  pub size : length v ≡ n
+  pub covered : IsCovered v (high_of n log)
+
+-- an index stands for the mutations: its rows are those of the documents after the mutations that it applied, and its
+-- snapshot is the index of the documents at its board
+pub record StandsFor (n : ℕ) (log : List Mutation) (b : Built) : Type 0 where
+  pub applied : b.applied ≤ length log
+  pub rows : HoldsKeys (keys_of b.field) (with_mutations map.empty (take b.applied log)) b.state
+  pub snapshot : b.snapshot ≡ index_of b.field (documents_at log (arc_value b.board))
+  pub reached : IsReachedAt n log (arc_value b.board)
+
+-- the index as a history shows it, once it is online
+abbrev pub shown : Built → Index
+shown b = record { number = 0; field = b.field; online = true; board = arc_value b.board }
+
+abbrev pub HoldsIndexes : ℕ → List Mutation → Option Built → List Index → Type 0
+HoldsIndexes n log None xs = xs ≡ []
+HoldsIndexes n log (Some b) xs = (xs ≡ shown b ∷ []) × StandsFor n log b
+
+-- an answer was given at a vector that the newest numbers cover
+abbrev pub IsReached : ℕ → List Mutation → Event → Type 0
+IsReached n log (mutate c k what) = ⊤
+IsReached n log (define c k i deferred field) = ⊤
+IsReached n log (publish i at) = ⊤
+IsReached n log (online c k indexes) = ⊤
+IsReached n log (start c k i demand) = ⊤
+IsReached n log (answer c k at) = IsReachedAt n log at
+
+-- between two commands of client 0, of which k are closed; s is the state that the events leave
+pub record IsRunAt (script : Script) (k : ℕ) (m : Machine) (s : State) : Type 0 where
+  pub vbuckets : m.store.vbuckets ≡ script.vbuckets
+  pub log : m.store.log ≡ s.log
+  pub opened : (s.client 0).opened ≡ nothing
+  pub next : (s.client 0).next ≡ k
+  pub seen : m.seen ≡ (s.client 0).seen
+  pub size : length m.seen ≡ script.vbuckets
+  pub indexes : HoldsIndexes script.vbuckets m.store.log m.index s.indexes
+  pub answers : m.answers ≡ answers_of script m.events
+  pub reached : AllByRecursion (IsReached script.vbuckets m.store.log) m.events
+
+abbrev pub IsRun : Script → ℕ → Machine → Type 0
+IsRun script k m = IsRunAt script k m (state_after script.vbuckets m.events)
+
+-- the new events are those after at most two more actions of client 0
+abbrev pub IsAfter : Script → List Event → List Event → Type 0
+IsAfter script old new = (actions : ℕ) × (actions ≤ 2) × (new ≡ after_actions script 0 actions old)
+
+-- the publication of the one index, where there is one
+abbrev pub publications : Option (Arc (List ℕ) Global) → List Event
+publications None = []
+publications (Some at) = publish 0 (arc_value at) ∷ []

@@ -1,0 +1,152 @@
+ghost use Rattle.std.specs.Prelude.{◌≡◌, ◌<◌, ◌≤◌, ◌+◌, ◌↔◌, length, take, IsTrue, IfOk, OnOk};
+ghost use Rattle.std.specs.Arc.{arc_value};
+ghost use Rattle.std.specs.FinMap as map;
+ghost use Rattle.seq_vector.specs.Vectors.{zeros};
+ghost use Rattle.vb_store.specs.Mutations.{high_of};
+ghost use Rattle.vb_store.specs.Documents.{with_mutation, with_mutations};
+ghost use Rattle.index_state.specs.RowsById.{all_rows};
+ghost use Rattle.index_state.specs.Keys.{keys_of};
+ghost use Rattle.index_state.specs.Index.{Documents, HoldsKeys};
+ghost use Rattle.gsi_sched.specs.Replay.{catch_up};
+ghost use Rattle.gsi_sched.specs.Run.{StandsFor, shown, publications};
+
+use index_state::{IndexState, a_document_comes, a_document_goes, keys_of, rows_are_the_index};
+use index_tree::Frozen;
+use n1ql_value::{Memory, Text};
+use seq_vector::{Vector, zero};
+use std::alloc::Global;
+use std::sync::Arc;
+use vb_store::laws::{high_counts, newest_documents};
+use vb_store::{Mutation, VbStore};
+
+/// An index: how far it has come in the mutations, its rows there, and its newest publication.
+#[derive(Drop)]
+pub(crate) struct Built {
+    pub(crate) field: Text,
+    /// How many of the mutations were applied, in order of acceptance.
+    pub(crate) applied: usize,
+    pub(crate) state: IndexState,
+    /// The vector of the newest publication, at first zero.
+    pub(crate) board: Arc<Vector>,
+    /// The rows at that vector.
+    pub(crate) snapshot: Frozen,
+}
+
+impl Built {
+    /// An index on a field, with nothing applied and nothing published.
+    pub(crate) fn new(alloc: Global, field: Text, vbuckets: u32) -> Result<Built, Memory>
+        requires { (0 < vbuckets) × (vbuckets ≤ 1024) }
+        ensures of { IfOk result (λ b. b.field ≡ field) }
+        ensures applied { IfOk result (λ b. b.applied ≡ 0) }
+        ensures rows { IfOk result (λ b. b.state ≡ map.empty) }
+        ensures snapshot { IfOk result (λ b. b.snapshot ≡ all_rows map.empty) }
+        ensures board { IfOk result (λ b. arc_value b.board ≡ zeros vbuckets) }
+    {
+        let state = IndexState::new(alloc);
+        let snapshot = state.freeze(alloc)?;
+        let board = Arc::new(alloc, zero(alloc, vbuckets)?)?;
+        Ok(Built {
+            field,
+            applied: 0,
+            state,
+            board,
+            snapshot,
+        })
+    }
+}
+
+/// Applies one mutation to the rows of an index.
+fn apply(
+    alloc: Global,
+    field: &Text,
+    state: &mut IndexState,
+    mutation: &Mutation,
+) -> Result<(), Memory>
+    ensures { OnOk result ((docs : Documents) → HoldsKeys (keys_of field.now) docs state.old
+        → HoldsKeys (keys_of field.now) (with_mutation docs mutation.now) state.new) }
+{
+    match &mutation.body {
+        None => {
+            a_document_goes();
+            state.drop_id(&mutation.id)
+        }
+        Some(doc) => {
+            a_document_comes();
+            let rows = keys_of(alloc, field, &mutation.id, doc)?;
+            state.put(&mutation.id, rows)
+        }
+    }
+}
+
+/// Applies the mutation at a place.
+fn apply_at(
+    alloc: Global,
+    field: &Text,
+    state: &mut IndexState,
+    store: &VbStore,
+    at: usize,
+) -> Result<(), Memory>
+    requires within { at < length store.now.log }
+    requires stands { HoldsKeys (keys_of field.now) (with_mutations map.empty (take at store.now.log)) state.old }
+    ensures { OnOk result (HoldsKeys (keys_of field.now) (with_mutations map.empty (take (at + 1) store.now.log)) state.new) }
+{
+    match store.get(at) {
+        Some(mutation) => apply(alloc, field, state, mutation),
+        None => unreachable!(),
+    }
+}
+
+/// Applies the mutations from a place on.
+fn apply_from(
+    alloc: Global,
+    field: &Text,
+    state: &mut IndexState,
+    store: &VbStore,
+    from: usize,
+) -> Result<(), Memory>
+    requires within { from ≤ length store.now.log }
+    requires stands { HoldsKeys (keys_of field.now) (with_mutations map.empty (take from store.now.log)) state.old }
+    ensures { OnOk result (HoldsKeys (keys_of field.now) (with_mutations map.empty store.now.log) state.new) }
+{
+    for at in from..store.len() {
+        apply_at(alloc, field, state, store, at)?;
+    }
+    Ok(())
+}
+
+/// Whether two vectors are the same.
+fn is_same(a: &Vector, b: &Vector) -> bool
+    requires { length a.now ≡ length b.now }
+    ensures { IsTrue result ↔ (a.now ≡ b.now) }
+{
+    a.covers(b) && b.covers(a)
+}
+
+/// Applies all mutations, and publishes the rows at the newest numbers where the newest publication was at others: answers
+/// the vector then.
+pub(crate) fn catch_up(
+    alloc: Global,
+    built: &mut Built,
+    store: &VbStore,
+) -> Result<Option<Arc<Vector>>, Memory>
+    requires { StandsFor store.now.vbuckets store.now.log built.old }
+    ensures stands { OnOk result (StandsFor store.now.vbuckets store.now.log built.new) }
+    ensures field { OnOk result (built.new.field ≡ built.old.field) }
+    ensures newest { OnOk result (arc_value built.new.board ≡ high_of store.now.vbuckets store.now.log) }
+    ensures published { IfOk result (λ at. publications at
+        ≡ catch_up (high_of store.now.vbuckets store.now.log) (shown built.old)) }
+{
+    store.vbuckets();
+    high_counts();
+    newest_documents();
+    rows_are_the_index();
+    apply_from(alloc, &built.field, &mut built.state, store, built.applied)?;
+    built.applied = store.len();
+    if is_same(&built.board, store.high()) {
+        return Ok(None);
+    }
+    let at = Arc::new(alloc, store.high().copy(alloc)?)?;
+    built.snapshot = built.state.freeze(alloc)?;
+    built.board = Arc::try_clone(&at)?;
+    Ok(Some(at))
+}

@@ -1,0 +1,8 @@
+//! The replay of a script: one history, in which each client's commands stand once and in order.
+//!
+//! Nothing here reads a byte of a script or writes one of a report.
+#![tactic(auto)]
+
+mod built;
+mod machine;
+mod rows_text;
