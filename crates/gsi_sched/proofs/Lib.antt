@@ -2,3 +2,4 @@ mod Applied
 mod Histories
 mod Shown
 mod Runs
+mod Actions

@@ -1,24 +1,29 @@
 -- What the replay has made stays held to its history, command after command.
-use Rattle.std.proofs.Common.{◌≡◌, ◌==◌, Bool, true, ℕ, suc, zero, ◌+◌, ◌≤◌, ◌<◌, List, [], ◌∷◌, ◌++◌, length, take, Option, Some, None, refl, sym, ap, ◌∙◌, subst, append-nil, arith}
+use Rattle.std.proofs.Common.{◌≡◌, ◌==◌, Bool, true, false, ℕ, suc, zero, max, ◌+◌, ◌≤◌, ◌<◌, List, [], ◌∷◌, ◌++◌, length, take, Option, Some, None, refl, sym, ap, ◌∙◌, subst, append-nil, arith}
 use Rattle.std.proofs.lemmas.List.{length-append, take-append-le}
 use Rattle.std.specs.Arc.{arc_value}
 use Rattle.std.specs.List.{AllByRecursion}
 use Rattle.std.specs.Prelude.{map as map_list, if◌then◌else◌}
 use Rattle.std.specs.FinMap as map
-use Rattle.seq_vector.specs.Vectors.{entry, IsCovered, join, zeros}
+use Rattle.seq_vector.specs.Vectors.{entry, IsCovered, join, zeros, pointwise}
 use Rattle.vb_store.specs.declared.mutation.Mutation.{Mutation}
 use Rattle.vb_store.specs.Mutations.{high_of}
+use Rattle.vb_store.specs.Accepted.{Accepted}
 use Rattle.vb_store.specs.Documents.{Documents, with_mutations, documents_at}
 use Rattle.index_state.specs.Keys.{keys_of}
 use Rattle.index_state.specs.RowsById.{RowsById, all_rows}
-use Rattle.index_state.specs.Index.{index_of, HoldsKeys}
+use Rattle.index_state.specs.Index.{index_of, scan_of, HoldsKeys}
 use Rattle.std.specs.declared.sync.Arc.{Arc}
 use Rattle.std.specs.declared.alloc.Global.{Global}
 use Rattle.scan_history.specs.declared.script.Script.{Script}
 use Rattle.scan_history.specs.Events.{Event, mutate, define, publish, online, start, answer}
-use Rattle.scan_history.specs.Fold.{published, Opened, nothing, work, started, Index, State, log_step, step, state_after}
+use Rattle.scan_history.specs.Fold.{published, gone_online, closed, own_step, Client, Opened, nothing, work, started, Index, State, log_step, step, state_after}
 use Rattle.scan_history.specs.declared.done.Answered.{Answered}
-use Rattle.scan_history.specs.Answers.{answer_at, answers_of}
+use Rattle.scan_history.specs.Answers.{command_at, spans_of, field_of, field_in, started_field, answer_at, answers_of}
+use Rattle.scan_history.specs.RowTexts.{rows_text}
+use Rattle.scan_history.specs.declared.command.Command.TheVariants.{Scan}
+use Rattle.n1ql_value.specs.declared.range.Range.{Range}
+use Rattle.index_tree.specs.Range.{range_of}
 use Rattle.gsi_sched.specs.declared.built.Built.{Built}
 use Rattle.gsi_sched.specs.declared.machine.Machine.{Machine}
 use Rattle.gsi_sched.specs.Run.{IsReachedAt, StandsFor, shown, HoldsIndexes, IsReached, IsRunAt, IsRun, publications}
@@ -146,3 +151,161 @@ state_published n events (Some at) x is number = (
   ap (λ (s : State). s.indexes) (state_after-push n events (publish 0 (arc_value at))) ∙ (ap (map_list (published 0 (arc_value at))) is ∙ ap (λ (b : Bool). (if b then record x { board = arc_value at } else x) ∷ []) (ap (λ (i : ℕ). i == 0) number)),
   ap (λ (s : State). s.client 0) (state_after-push n events (publish 0 (arc_value at))),
 )
+
+-- ---- the creation of the index
+
+abbrev online_index : List ℕ → List ℕ → Index
+online_index field board = record { number = 0; field = field; online = true; board = board }
+
+same_index : (f g u v : List ℕ) → f ≡ g → u ≡ v → online_index f u ∷ [] ≡ online_index g v ∷ []
+same_index f g u v field board = ap (λ (h : List ℕ). online_index h u ∷ []) field ∙ ap (λ (w : List ℕ). online_index g w ∷ []) board
+
+module _ (script : Script) (k : ℕ) (m : Machine) (run : IsRun script k m) (empty : m.index ≡ None) (field : List ℕ) (at : Option (Arc (List ℕ) Global)) where
+  abbrev n : ℕ
+  n = script.vbuckets
+
+  -- the history with the definition, with the publication, and with the index online
+  abbrev pub defined_events : List Event
+  defined_events = m.events ++ define 0 k 0 false field ∷ []
+
+  abbrev pub published_events : List Event
+  published_events = defined_events ++ publications at
+
+  abbrev pub created_events : List Event
+  created_events = published_events ++ online 0 k (0 ∷ []) ∷ []
+
+  abbrev pub fresh_index : Index
+  fresh_index = record { number = 0; field = field; online = false; board = zeros n }
+
+  no_indexes : (o : Option Built) (xs : List Index) → o ≡ None → HoldsIndexes n m.store.log o xs → xs ≡ []
+  no_indexes None xs e h = h
+  no_indexes (Some b) xs e h = absurd (cc)
+
+  pub was_empty : (state_after n m.events).indexes ≡ []
+  was_empty = no_indexes m.index (state_after n m.events).indexes empty run.indexes
+
+  pub after_definition : state_after n defined_events ≡ step n (state_after n m.events) (define 0 k 0 false field)
+  after_definition = state_after-push n m.events (define 0 k 0 false field)
+
+  pub defined_index : (state_after n defined_events).indexes ≡ fresh_index ∷ []
+  defined_index = ap (λ (s : State). s.indexes) after_definition ∙ ap (λ (xs : List Index). xs ++ fresh_index ∷ []) was_empty
+
+  published_state : ((state_after n published_events).indexes ≡ record fresh_index { board = board_after at (zeros n) } ∷ []) × ((state_after n published_events).client 0 ≡ (state_after n defined_events).client 0)
+  published_state = state_published n defined_events at fresh_index defined_index refl
+
+  after_online : state_after n created_events ≡ step n (state_after n published_events) (online 0 k (0 ∷ []))
+  after_online = state_after-push n published_events (online 0 k (0 ∷ []))
+
+  created_index : (state_after n created_events).indexes ≡ record { number = 0; field = field; online = true; board = board_after at (zeros n) } ∷ []
+  created_index = ap (λ (s : State). s.indexes) after_online ∙ ap (map_list (gone_online (0 ∷ []))) published_state.0
+
+  created_client : (state_after n created_events).client 0 ≡ closed ((state_after n m.events).client 0)
+  created_client =
+      ap (λ (s : State). s.client 0) after_online
+      ∙ (ap closed (published_state.1 ∙ ap (λ (s : State). s.client 0) after_definition))
+
+  kept_created : Kept script m.store.log m.answers created_events
+  kept_created =
+      kept_quiet script m.store.log m.answers published_events (online 0 k (0 ∷ []))
+      (kept_published script m.store.log m.answers defined_events at
+        (kept_quiet script m.store.log m.answers m.events (define 0 k 0 false field) (kept_of script k m run) refl tt refl)) refl tt refl
+
+  pub run_created : (m' : Machine) (b : Built) → m'.store ≡ m.store → m'.index ≡ Some b → m'.seen ≡ m.seen → m'.answers ≡ m.answers → m'.events ≡ created_events → b.field ≡ field
+      → arc_value b.board ≡ board_after at (zeros n) → StandsFor n m.store.log b → IsRun script (k + 1) m'
+  run_created m' b store index seen answers events field_is board stands =
+      subst (λ (es : List Event). IsRunAt script (k + 1) m' (state_after n es)) (sym events) (record {
+        vbuckets = ap (λ (a : Accepted). a.vbuckets) store ∙ run.vbuckets;
+        log = ap (λ (a : Accepted). a.log) store ∙ kept_created.log_is;
+        opened = ap (λ (c : Client). c.opened) created_client;
+        next = ap (λ (c : Client). c.next) created_client ∙ ap (λ (j : ℕ). j + 1) run.next;
+        seen = seen ∙ (run.seen ∙ sym (ap (λ (c : Client). c.seen) created_client));
+        size = ap length seen ∙ run.size;
+        indexes = subst (λ (l : List Mutation). HoldsIndexes n l m'.index (state_after n created_events).indexes) (sym (ap (λ (a : Accepted). a.log) store))
+            (subst (λ (o : Option Built). HoldsIndexes n m.store.log o (state_after n created_events).indexes) (sym index)
+            (created_index ∙ same_index field b.field (board_after at (zeros n)) (arc_value b.board) (sym field_is) (sym board), stands));
+        answers = answers ∙ (kept_created.answers_are ∙ ap (answers_of script) (sym events));
+        reached = subst (λ (es : List Event). AllByRecursion (IsReached n m'.store.log) es) (sym events)
+            (subst (λ (l : List Mutation). AllByRecursion (IsReached n l) created_events) (sym (ap (λ (a : Accepted). a.log) store)) kept_created.reached);
+      })
+
+-- ---- an answer
+
+pointwise_length : (f : ℕ → ℕ → ℕ) (v w : List ℕ) → length v ≡ length w → length (pointwise f v w) ≡ length v
+pointwise_length f [] w e = refl
+pointwise_length f (x ∷ xs) [] e = absurd (omega arith)
+pointwise_length f (x ∷ xs) (y ∷ ys) e = omega (arith, pointwise_length f xs ys (omega arith))
+
+module _ (script : Script) (k : ℕ) (m : Machine) (run : IsRun script k m) (b : Built) (there : m.index ≡ Some b) where
+  abbrev vbs : ℕ
+  vbs = script.vbuckets
+
+  abbrev board : List ℕ
+  board = arc_value b.board
+
+  abbrev pub demand_events : List Event
+  demand_events = m.events ++ start 0 k 0 m.seen ∷ []
+
+  abbrev pub answered_events : List Event
+  answered_events = demand_events ++ answer 0 k board ∷ []
+
+  one_index : (o : Option Built) (xs : List Index) → o ≡ Some b → HoldsIndexes vbs m.store.log o xs → (xs ≡ shown b ∷ []) × StandsFor vbs m.store.log b
+  one_index None xs e h = absurd (cc)
+  one_index (Some c) xs e h =
+      let same : c ≡ b = cc in
+      subst (λ (d : Built). (xs ≡ shown d ∷ []) × StandsFor vbs m.store.log d) same h
+
+  pub has_index : ((state_after vbs m.events).indexes ≡ shown b ∷ []) × StandsFor vbs m.store.log b
+  has_index = one_index m.index (state_after vbs m.events).indexes there run.indexes
+
+  after_start : state_after vbs demand_events ≡ step vbs (state_after vbs m.events) (start 0 k 0 m.seen)
+  after_start = state_after-push vbs m.events (start 0 k 0 m.seen)
+
+  after_answer : state_after vbs answered_events ≡ step vbs (state_after vbs demand_events) (answer 0 k board)
+  after_answer = state_after-push vbs demand_events (answer 0 k board)
+
+  pub start_client : (state_after vbs demand_events).client 0 ≡ record ((state_after vbs m.events).client 0) { opened = started 0 m.seen (high_of vbs (state_after vbs m.events).log) }
+  start_client = ap (λ (s : State). s.client 0) after_start
+
+  pub start_indexes : (state_after vbs demand_events).indexes ≡ shown b ∷ []
+  start_indexes = ap (λ (s : State). s.indexes) after_start ∙ has_index.0
+
+  answered_client : (state_after vbs answered_events).client 0 ≡ record (closed ((state_after vbs m.events).client 0)) { seen = join ((state_after vbs m.events).client 0).seen board }
+  answered_client = ap (λ (s : State). s.client 0) after_answer ∙ ap (λ (c : Client). own_step [] c (answer 0 k board)) start_client
+
+  answered_indexes : (state_after vbs answered_events).indexes ≡ shown b ∷ []
+  answered_indexes = ap (λ (s : State). s.indexes) after_answer ∙ start_indexes
+
+  -- the field of the index that the scan began on
+  scanned_field : started_field (state_after vbs demand_events) 0 ≡ b.field
+  scanned_field =
+      ap (λ (o : Opened). field_in (state_after vbs demand_events) o) (ap (λ (c : Client). c.opened) start_client)
+      ∙ ap (field_of 0) start_indexes
+
+  kept_started : Kept script m.store.log m.answers demand_events
+  kept_started = kept_quiet script m.store.log m.answers m.events (start 0 k 0 m.seen) (kept_of script k m run) refl tt refl
+
+  pub given_text : (index : List ℕ) (spans : List (List Range)) → command_at script 0 k ≡ Some (Scan index spans)
+      → rows_text (scan_of (started_field (state_after vbs demand_events) 0) (spans_of (command_at script 0 k)) (documents_at m.store.log board)) ≡ rows_text (range_of spans b.snapshot)
+  given_text index spans command =
+      ap (λ f. rows_text (scan_of f (spans_of (command_at script 0 k)) (documents_at m.store.log board))) scanned_field
+      ∙ (ap (λ o. rows_text (scan_of b.field (spans_of o) (documents_at m.store.log board))) command
+      ∙ ap (λ rows. rows_text (range_of spans rows)) (sym has_index.1.snapshot))
+
+  pub run_scanned : (m' : Machine) (index : List ℕ) (spans : List (List Range)) → command_at script 0 k ≡ Some (Scan index spans) → m'.store ≡ m.store → m'.index ≡ m.index → m'.seen ≡ join m.seen board
+      → m'.answers ≡ m.answers ++ record { c = 0; k = k; text = rows_text (range_of spans b.snapshot) } ∷ [] → m'.events ≡ answered_events → IsRun script (k + 1) m'
+  run_scanned m' index spans command store held seen answers events =
+      let kept = kept_more script m.store.log m.answers demand_events (answer 0 k board) kept_started refl has_index.1.reached in
+      let given : List ℕ → List Answered = λ text. record { c = 0; k = k; text = text } ∷ [] in
+      subst (λ (es : List Event). IsRunAt script (k + 1) m' (state_after vbs es)) (sym events) (record {
+        vbuckets = ap (λ (a : Accepted). a.vbuckets) store ∙ run.vbuckets;
+        log = ap (λ (a : Accepted). a.log) store ∙ kept.log_is;
+        opened = ap (λ (c : Client). c.opened) answered_client;
+        next = ap (λ (c : Client). c.next) answered_client ∙ ap (λ (j : ℕ). j + 1) run.next;
+        seen = seen ∙ (ap (λ v. join v board) run.seen ∙ sym (ap (λ (c : Client). c.seen) answered_client));
+        size = ap length seen ∙ (pointwise_length max m.seen board (run.size ∙ sym has_index.1.reached.size) ∙ run.size);
+        indexes = subst (λ (l : List Mutation). HoldsIndexes vbs l m'.index (state_after vbs answered_events).indexes) (sym (ap (λ (a : Accepted). a.log) store))
+            (subst (λ (o : Option Built). HoldsIndexes vbs m.store.log o (state_after vbs answered_events).indexes) (sym (held ∙ there)) (answered_indexes, has_index.1));
+        answers = answers ∙ (ap (λ text. m.answers ++ given text) (sym (given_text index spans command)) ∙ (kept.answers_are ∙ ap (answers_of script) (sym events)));
+        reached = subst (λ (es : List Event). AllByRecursion (IsReached vbs m'.store.log) es) (sym events)
+            (subst (λ (l : List Mutation). AllByRecursion (IsReached vbs l) answered_events) (sym (ap (λ (a : Accepted). a.log) store)) kept.reached);
+      })

@@ -31,8 +31,13 @@ field_of i [] = []
 field_of i (x ∷ xs) = if x.number == i then x.field else field_of i xs
 
 -- the field of the index that a client's scan began on
+abbrev pub field_in : State → Opened → List ℕ
+field_in s nothing = []
+field_in s (work indexes high) = []
+field_in s (started i demand high) = field_of i s.indexes
+
 abbrev pub started_field : State → ℕ → List ℕ
-started_field s c = elim (s.client c).opened [ nothing ↦ [] | work indexes high ↦ [] | started i demand high ↦ field_of i s.indexes ]
+started_field s c = field_in s (s.client c).opened
 
 -- The answer of an event in the state before it, where `log` are the mutations of the whole history: the rows of the index
 -- that the spans hold, on the documents at the answer's vector.
