@@ -22,9 +22,9 @@ use Rattle.scan_history.specs.Answers.{command_at}
 use Rattle.gsi_sched.specs.declared.built.Built.{Built}
 use Rattle.gsi_sched.specs.declared.machine.Machine.{Machine}
 use Rattle.gsi_sched.specs.Replay.{catch_up, scanned, board_of, opening, closing, action_by, action, after_actions}
-use Rattle.gsi_sched.specs.Run.{shown, IsRun, IsAfter, publications}
+use Rattle.gsi_sched.specs.Run.{shown, IsRun, IsAfter, publications, board_after}
 use Rattle.gsi_sched.proofs.Histories.{state_after-push}
-use Rattle.gsi_sched.proofs.Runs.{defined_events, published_events, created_events, fresh_index, was_empty, after_definition, defined_index, board_after, demand_events, answered_events, has_index, start_client, start_indexes}
+use Rattle.gsi_sched.proofs.Runs.{defined_events, published_events, created_events, fresh_index, was_empty, after_definition, defined_index, demand_events, answered_events, has_index, start_client, start_indexes}
 
 -- with nothing open the client opens its next command
 pub first_action : (script : Script) (k : ℕ) (m : Machine) (command : Command) → IsRun script k m → command_at script 0 k ≡ Some command

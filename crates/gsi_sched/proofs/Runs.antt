@@ -26,7 +26,7 @@ use Rattle.n1ql_value.specs.declared.range.Range.{Range}
 use Rattle.index_tree.specs.Range.{range_of}
 use Rattle.gsi_sched.specs.declared.built.Built.{Built}
 use Rattle.gsi_sched.specs.declared.machine.Machine.{Machine}
-use Rattle.gsi_sched.specs.Run.{IsReachedAt, StandsFor, shown, HoldsIndexes, IsReached, IsRunAt, IsRun, publications}
+use Rattle.gsi_sched.specs.Run.{IsReachedAt, StandsFor, shown, HoldsIndexes, IsReached, IsRunAt, IsRun, publications, board_after}
 use Rattle.gsi_sched.proofs.Histories.{state_after-push, answers_of-grows}
 
 All-push : {A : Type 0} (P : A → Type 0) (xs : List A) (x : A) → AllByRecursion P xs → P x → AllByRecursion P (xs ++ x ∷ [])
@@ -136,11 +136,6 @@ stands_new n log b applied state snapshot board no_rows fresh none sized grows g
   snapshot = snapshot ∙ (fresh ∙ ap (index_of b.field) (sym (ap (documents_at log) board ∙ growth)));
   reached = subst (IsReachedAt n log) (none ∙ sym board) (record { size = sized; covered = grows });
 }
-
--- the vector of an index after a publication, if there is one
-abbrev pub board_after : Option (Arc (List ℕ) Global) → List ℕ → List ℕ
-board_after None board = board
-board_after (Some at) board = arc_value at
 
 -- a publication leaves the clients as they are, and moves the board of the one index
 state_published : (n : ℕ) (events : List Event) (at : Option (Arc (List ℕ) Global)) (x : Index) → (state_after n events).indexes ≡ x ∷ [] → x.number ≡ 0
@@ -309,3 +304,13 @@ module _ (script : Script) (k : ℕ) (m : Machine) (run : IsRun script k m) (b :
         reached = subst (λ (es : List Event). AllByRecursion (IsReached vbs m'.store.log) es) (sym events)
             (subst (λ (l : List Mutation). AllByRecursion (IsReached vbs l) answered_events) (sym (ap (λ (a : Accepted). a.log) store)) kept.reached);
       })
+
+-- ---- the events of a command, one after another
+
+pub events_answered : (events first second : List Event) (a b x y : Event) → first ≡ events ++ a ∷ [] → a ≡ x → second ≡ first ++ b ∷ [] → b ≡ y → second ≡ (events ++ x ∷ []) ++ y ∷ []
+events_answered events first second a b x y e f g h =
+    g ∙ (ap (λ es. es ++ b ∷ []) (e ∙ ap (λ ev. events ++ ev ∷ []) f) ∙ ap (λ ev. (events ++ x ∷ []) ++ ev ∷ []) h)
+
+pub events_created : (events first second third more : List Event) (a x y : Event) → first ≡ events ++ a ∷ [] → a ≡ x → second ≡ first ++ more → third ≡ second ++ y ∷ [] → third ≡ ((events ++ x ∷ []) ++ more) ++ y ∷ []
+events_created events first second third more a x y e f g h =
+    h ∙ ap (λ es. es ++ y ∷ []) (g ∙ ap (λ es. es ++ more) (e ∙ ap (λ ev. events ++ ev ∷ []) f))

@@ -72,3 +72,8 @@ IsAfter script old new = (actions : ℕ) × (actions ≤ 2) × (new ≡ after_ac
 abbrev pub publications : Option (Arc (List ℕ) Global) → List Event
 publications None = []
 publications (Some at) = publish 0 (arc_value at) ∷ []
+
+-- the vector of an index after a publication, if there is one
+abbrev pub board_after : Option (Arc (List ℕ) Global) → List ℕ → List ℕ
+board_after None board = board
+board_after (Some at) board = arc_value at

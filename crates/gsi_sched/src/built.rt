@@ -8,7 +8,7 @@ ghost use Rattle.index_state.specs.RowsById.{all_rows};
 ghost use Rattle.index_state.specs.Keys.{keys_of};
 ghost use Rattle.index_state.specs.Index.{Documents, HoldsKeys};
 ghost use Rattle.gsi_sched.specs.Replay.{catch_up};
-ghost use Rattle.gsi_sched.specs.Run.{StandsFor, shown, publications};
+ghost use Rattle.gsi_sched.specs.Run.{StandsFor, shown, publications, board_after};
 
 use index_state::{IndexState, a_document_comes, a_document_goes, keys_of, rows_are_the_index};
 use index_tree::Frozen;
@@ -135,6 +135,7 @@ pub(crate) fn catch_up(
     ensures newest { OnOk result (arc_value built.new.board ≡ high_of store.now.vbuckets store.now.log) }
     ensures published { IfOk result (λ at. publications at
         ≡ catch_up (high_of store.now.vbuckets store.now.log) (shown built.old)) }
+    ensures board { IfOk result (λ at. arc_value built.new.board ≡ board_after at (arc_value built.old.board)) }
 {
     store.vbuckets();
     high_counts();

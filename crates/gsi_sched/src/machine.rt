@@ -2,17 +2,26 @@ ghost use Rattle.std.specs.Prelude.{◌≡◌, ◌<◌, ◌≤◌, ◌+◌, ◌+
 ghost use Rattle.vb_store.specs.Mutations.{next_of};
 ghost use Rattle.scan_history.specs.Ddl.{defined_field, field_name};
 ghost use Rattle.scan_history.specs.Answers.{command_at};
-ghost use Rattle.scan_history.specs.Events.{mutate as mutate_event};
+ghost use Rattle.scan_history.specs.Events.{mutate as mutate_event, online as online_event};
 ghost use Rattle.scan_history.specs.declared.command.Command.TheVariants as command;
-ghost use Rattle.gsi_sched.specs.Run.{IsRun, IsAfter};
+ghost use Rattle.std.specs.Arc.{arc_value};
+ghost use Rattle.seq_vector.specs.Vectors.{zeros};
+ghost use Rattle.index_tree.specs.Range.{range_of};
+ghost use Rattle.scan_history.specs.RowTexts.{rows_text as rows_as_text};
+ghost use Rattle.gsi_sched.specs.Run.{IsRun, IsAfter, StandsFor, publications};
 
-use crate::built::Built;
-use n1ql_value::{Memory, Text, Value};
-use scan_history::{AnswerList, Event, Events, Happened, Script};
-use seq_vector::{Vector, zero};
+use crate::built::{Built, catch_up};
+use crate::rows_text::rows_text;
+use index_state::{nothing_is_the_index_of_nothing, rows_are_the_index};
+use n1ql_value::{ListOf, Memory, Spans, Text, Value};
+use scan_history::{
+    AnswerList, Answered, Event, Events, Happened, Numbers, Script, defined_field,
+};
+use seq_vector::Vector;
 use std::alloc::Global;
+use std::sync::Arc;
 use vb_store::VbStore;
-use vb_store::laws::{growth, high_counts};
+use vb_store::laws::{growth, high_counts, start};
 
 /// What the replay of one client's commands has made so far.
 #[derive(Drop)]
@@ -78,4 +87,123 @@ pub(crate) fn delete(
     ensures index { OnOk result (machine.new.index ≡ machine.old.index) }
 {
     mutate(script, machine, k, id.copy(alloc)?, None)
+}
+
+/// The name of the field that the text defines the index on.
+fn field_of(alloc: Global, text: &Text) -> Result<Text, Memory>
+    ensures { IfOk result (λ name. name ≡ field_name text.now) }
+{
+    let mut name = String::new(alloc);
+    if let Some(letter) = defined_field(text.as_str()) {
+        name.push(char::from(letter))?;
+    }
+    Text::of(alloc, name.as_str())
+}
+
+/// An index on a field, before any of the mutations.
+fn define(alloc: Global, field: Text, store: &VbStore) -> Result<Built, Memory>
+    ensures of { IfOk result (λ b. b.field ≡ field) }
+    ensures board { IfOk result (λ b. arc_value b.board ≡ zeros store.now.vbuckets) }
+    ensures stands { IfOk result (λ b. StandsFor store.now.vbuckets store.now.log b) }
+{
+    start();
+    growth();
+    high_counts();
+    nothing_is_the_index_of_nothing();
+    rows_are_the_index();
+    Built::new(alloc, field, store.vbuckets())
+}
+
+/// Adds the publication at a vector, where there is one.
+fn push_publication(events: &mut Events, at: Option<Arc<Vector>>) -> Result<(), Memory>
+    ensures { OnOk result (events.new ≡ events.old ++ publications at) }
+{
+    match at {
+        None => Ok(()),
+        Some(at) => events.push(Happened::new(Event::Publish { i: 0, at })),
+    }
+}
+
+/// Adds that the one index is online.
+fn push_online(alloc: Global, events: &mut Events, k: u32) -> Result<(), Memory>
+    ensures { OnOk result (events.new ≡ events.old ++ online_event 0 k (0 ∷ []) ∷ []) }
+{
+    let mut indexes = Numbers::new(alloc);
+    indexes.push(0)?;
+    events.push(Happened::new(Event::Online { c: 0, k, indexes }))
+}
+
+/// The client's command at place `k` creates the index.
+pub(crate) fn create(
+    alloc: Global,
+    script: &Script,
+    machine: &mut Machine,
+    k: u32,
+    text: &Text,
+) -> Result<(), Memory>
+    requires command { command_at script.now 0 k ≡ Some (command.Ddl text.now) }
+    requires none { machine.old.index ≡ None }
+    requires run { IsRun script.now k machine.old }
+    ensures run { OnOk result (IsRun script.now (k + 1) machine.new) }
+    ensures after { OnOk result (IsAfter script.now machine.old.events machine.new.events) }
+    ensures index { OnOk result (IsSome machine.new.index) }
+{
+    let field = field_of(alloc, text)?;
+    let shown = field.copy(alloc)?;
+    let mut built = define(alloc, field, &machine.store)?;
+    machine.events.push(Happened::new(Event::Define {
+        c: 0,
+        k,
+        i: 0,
+        deferred: false,
+        field: shown,
+    }))?;
+    let at = catch_up(alloc, &mut built, &machine.store)?;
+    push_publication(&mut machine.events, at)?;
+    push_online(alloc, &mut machine.events, k)?;
+    machine.index = Some(built);
+    Ok(())
+}
+
+/// The rows of the newest publication that some span holds, as the text of an answer.
+fn answer(alloc: Global, built: &Built, spans: &Spans) -> Result<ListOf<u8>, Memory>
+    ensures { IfOk result (λ text. text ≡ rows_as_text (range_of spans.now built.now.snapshot)) }
+{
+    let rows = built.snapshot.range(alloc, spans)?;
+    rows_text(alloc, &rows)
+}
+
+/// The client's command at place `k` is a scan.
+pub(crate) fn scan(
+    alloc: Global,
+    script: &Script,
+    machine: &mut Machine,
+    k: u32,
+    index: &Text,
+    spans: &Spans,
+) -> Result<(), Memory>
+    requires command { command_at script.now 0 k ≡ Some (command.Scan index.now spans.now) }
+    requires made { IsSome machine.old.index }
+    requires run { IsRun script.now k machine.old }
+    ensures run { OnOk result (IsRun script.now (k + 1) machine.new) }
+    ensures after { OnOk result (IsAfter script.now machine.old.events machine.new.events) }
+    ensures index { OnOk result (machine.new.index ≡ machine.old.index) }
+{
+    match &machine.index {
+        None => unreachable!(),
+        Some(built) => {
+            let demand = machine.seen.copy(alloc)?;
+            let text = answer(alloc, built, spans)?;
+            let at = Arc::try_clone(&built.board)?;
+            machine.events.push(Happened::new(Event::Start {
+                c: 0,
+                k,
+                i: 0,
+                demand,
+            }))?;
+            machine.seen.join_in(&at);
+            machine.answers.push(Answered { c: 0, k, text })?;
+            machine.events.push(Happened::new(Event::Answer { c: 0, k, at }))
+        }
+    }
 }
