@@ -1,5 +1,5 @@
 -- Which actions of the client a command's events are.
-use Rattle.std.proofs.Common.{◌≡◌, ◌==◌, ℕ, suc, zero, ◌+◌, ◌≤◌, ◌*◌, Bool, true, false, List, [], ◌∷◌, ◌++◌, length, Option, Some, None, refl, sym, ap, ◌∙◌, subst, append-nil, append_assoc, arith}
+use Rattle.std.proofs.Common.{◌≡◌, ◌==◌, ℕ, false, List, [], ◌∷◌, ◌++◌, length, Option, Some, None, sym, ap, ◌∙◌, append-nil, append_assoc, arith}
 use Rattle.std.specs.Prelude.{if◌then◌else◌}
 use Rattle.std.specs.Option.{option_map_or}
 use Rattle.std.specs.List.{flat_map, list_any}
@@ -10,21 +10,19 @@ use Rattle.std.specs.declared.alloc.Global.{Global}
 use Rattle.n1ql_value.specs.declared.range.Range.{Range}
 use Rattle.n1ql_value.specs.declared.value.Value.{Value}
 use Rattle.seq_vector.specs.Vectors.{zeros}
-use Rattle.vb_store.specs.declared.mutation.Mutation.{Mutation}
 use Rattle.vb_store.specs.Mutations.{high_of, next_of}
 use Rattle.scan_history.specs.declared.command.Command.{Command}
 use Rattle.scan_history.specs.declared.command.Command.TheVariants.{Upsert, Delete, Ddl, Scan}
 use Rattle.scan_history.specs.declared.script.Script.{Script}
 use Rattle.scan_history.specs.Ddl.{field_name}
 use Rattle.scan_history.specs.Events.{Event, mutate, define, publish, online, start, answer}
-use Rattle.scan_history.specs.Fold.{Opened, nothing, work, started, Client, Index, State, step, state_after}
+use Rattle.scan_history.specs.Fold.{work, Client, Index, State, state_after}
 use Rattle.scan_history.specs.Answers.{command_at}
 use Rattle.gsi_sched.specs.declared.built.Built.{Built}
 use Rattle.gsi_sched.specs.declared.machine.Machine.{Machine}
-use Rattle.gsi_sched.specs.Replay.{catch_up, scanned, board_of, opening, closing, action_by, action, after_actions}
-use Rattle.gsi_sched.specs.Run.{shown, IsRun, IsAfter, publications, board_after}
-use Rattle.gsi_sched.proofs.Histories.{state_after-push}
-use Rattle.gsi_sched.proofs.Runs.{defined_events, published_events, created_events, fresh_index, was_empty, after_definition, defined_index, demand_events, answered_events, has_index, start_client, start_indexes}
+use Rattle.gsi_sched.specs.Replay.{catch_up, scanned, board_of, opening, action_by, action, after_actions}
+use Rattle.gsi_sched.specs.Run.{shown, IsRun, IsAfter, publications}
+use Rattle.gsi_sched.proofs.Runs.{created_events, fresh_index, was_empty, after_definition, defined_index, demand_events, answered_events, has_index, start_client, start_indexes}
 
 -- with nothing open the client opens its next command
 pub first_action : (script : Script) (k : ℕ) (m : Machine) (command : Command) → IsRun script k m → command_at script 0 k ≡ Some command
@@ -39,20 +37,26 @@ first_action script k m command run is =
 pub upserted : (script : Script) (k : ℕ) (m : Machine) (id : List ℕ) (doc : Value) (events : List Event) → IsRun script k m → command_at script 0 k ≡ Some (Upsert id doc)
     → events ≡ m.events ++ mutate 0 k (next_of m.store.vbuckets m.store.log id (Some doc)) ∷ [] → IsAfter script m.events events
 upserted script k m id doc events run is e =
-    let s = state_after script.vbuckets m.events in
-    (1, omega arith, e ∙ ap (λ more. m.events ++ more)
-    (ap (λ n. mutate 0 k (next_of n m.store.log id (Some doc)) ∷ []) run.vbuckets
-    ∙ (ap (λ l. mutate 0 k (next_of script.vbuckets l id (Some doc)) ∷ []) run.log
-    ∙ (ap (λ j. mutate 0 j (next_of script.vbuckets s.log id (Some doc)) ∷ []) (sym run.next) ∙ sym (first_action script k m (Upsert id doc) run is)))))
+    let s = state_after script.vbuckets m.events in (
+      1,
+      omega arith,
+      e ∙ ap (λ more. m.events ++ more)
+          (ap (λ n. mutate 0 k (next_of n m.store.log id (Some doc)) ∷ []) run.vbuckets
+          ∙ (ap (λ l. mutate 0 k (next_of script.vbuckets l id (Some doc)) ∷ []) run.log
+          ∙ (ap (λ j. mutate 0 j (next_of script.vbuckets s.log id (Some doc)) ∷ []) (sym run.next) ∙ sym (first_action script k m (Upsert id doc) run is)))),
+    )
 
 pub deleted : (script : Script) (k : ℕ) (m : Machine) (id : List ℕ) (events : List Event) → IsRun script k m → command_at script 0 k ≡ Some (Delete id)
     → events ≡ m.events ++ mutate 0 k (next_of m.store.vbuckets m.store.log id None) ∷ [] → IsAfter script m.events events
 deleted script k m id events run is e =
-    let s = state_after script.vbuckets m.events in
-    (1, omega arith, e ∙ ap (λ more. m.events ++ more)
-    (ap (λ n. mutate 0 k (next_of n m.store.log id None) ∷ []) run.vbuckets
-    ∙ (ap (λ l. mutate 0 k (next_of script.vbuckets l id None) ∷ []) run.log
-    ∙ (ap (λ j. mutate 0 j (next_of script.vbuckets s.log id None) ∷ []) (sym run.next) ∙ sym (first_action script k m (Delete id) run is)))))
+    let s = state_after script.vbuckets m.events in (
+      1,
+      omega arith,
+      e ∙ ap (λ more. m.events ++ more)
+          (ap (λ n. mutate 0 k (next_of n m.store.log id None) ∷ []) run.vbuckets
+          ∙ (ap (λ l. mutate 0 k (next_of script.vbuckets l id None) ∷ []) run.log
+          ∙ (ap (λ j. mutate 0 j (next_of script.vbuckets s.log id None) ∷ []) (sym run.next) ∙ sym (first_action script k m (Delete id) run is)))),
+    )
 
 two_actions : (script : Script) (events first second : List Event) → action script events 0 ≡ first → action script (events ++ first) 0 ≡ second → (events ++ first) ++ second ≡ after_actions script 0 2 events
 two_actions script events first second a b =
@@ -68,20 +72,20 @@ created script k m text at b events run empty is board published e =
     let field = field_name text in
     let fresh = fresh_index script k m run empty field at in
     let first : action script m.events 0 ≡ define 0 k 0 false field ∷ [] =
-        first_action script k m (Ddl text) run is
-        ∙ (ap (λ j. define 0 j (length s.indexes) false field ∷ []) run.next ∙ ap (λ (xs : List Index). define 0 k (length xs) false field ∷ []) (was_empty script k m run empty field at)) in
+    first_action script k m (Ddl text) run is
+    ∙ (ap (λ j. define 0 j (length s.indexes) false field ∷ []) run.next ∙ ap (λ (xs : List Index). define 0 k (length xs) false field ∷ []) (was_empty script k m run empty field at)) in
     let defined = m.events ++ define 0 k 0 false field ∷ [] in
     let t = state_after n defined in
     let client : t.client 0 ≡ record (s.client 0) { opened = work (0 ∷ []) (high_of n s.log) } = ap (λ (u : State). u.client 0) (after_definition script k m run empty field at) in
     let log : t.log ≡ m.store.log = ap (λ (u : State). u.log) (after_definition script k m run empty field at) ∙ sym run.log in
     let second : action script defined 0 ≡ publications at ++ online 0 k (0 ∷ []) ∷ [] =
-        ap (λ (c : Client). action_by script t 0 c.opened) client
-        ∙ (ap (λ (xs : List Index). caught_up (high_of n t.log) xs ++ online 0 (t.client 0).next (0 ∷ []) ∷ []) (defined_index script k m run empty field at)
-        ∙ (ap (λ (j : ℕ). caught_up (high_of n t.log) (fresh ∷ []) ++ online 0 j (0 ∷ []) ∷ []) (ap (λ (c : Client). c.next) client ∙ run.next)
-        ∙ ap (λ more. more ++ online 0 k (0 ∷ []) ∷ [])
-          (append-nil (catch_up (high_of n t.log) fresh)
-          ∙ (ap (λ l. catch_up (high_of n l) fresh) log
-          ∙ (ap (λ v. if bytes_eq v (high_of n m.store.log) then [] else publish 0 (high_of n m.store.log) ∷ []) (sym board) ∙ sym published))))) in
+    ap (λ (c : Client). action_by script t 0 c.opened) client
+    ∙ (ap (λ (xs : List Index). caught_up (high_of n t.log) xs ++ online 0 (t.client 0).next (0 ∷ []) ∷ []) (defined_index script k m run empty field at)
+    ∙ (ap (λ (j : ℕ). caught_up (high_of n t.log) (fresh ∷ []) ++ online 0 j (0 ∷ []) ∷ []) (ap (λ (c : Client). c.next) client ∙ run.next)
+    ∙ ap (λ more. more ++ online 0 k (0 ∷ []) ∷ [])
+    (append-nil (catch_up (high_of n t.log) fresh)
+    ∙ (ap (λ l. catch_up (high_of n l) fresh) log
+    ∙ (ap (λ v. if bytes_eq v (high_of n m.store.log) then [] else publish 0 (high_of n m.store.log) ∷ []) (sym board) ∙ sym published))))) in
     (2, omega arith, e ∙ (append_assoc defined (publications at) (online 0 k (0 ∷ []) ∷ []) ∙ two_actions script m.events (define 0 k 0 false field ∷ []) (publications at ++ online 0 k (0 ∷ []) ∷ []) first second))
   where
     caught_up : List ℕ → List Index → List Event
@@ -94,14 +98,14 @@ scanned_twice script k m b index spans events run there is e =
     let n = script.vbuckets in
     let s = state_after n m.events in
     let first : action script m.events 0 ≡ start 0 k 0 m.seen ∷ [] =
-        first_action script k m (Scan index spans) run is
-        ∙ (ap (λ j. start 0 j (scanned s.indexes) (s.client 0).seen ∷ []) run.next
-        ∙ (ap (λ (xs : List Index). start 0 k (scanned xs) (s.client 0).seen ∷ []) (has_index script k m run b there).0
-        ∙ ap (λ v. start 0 k 0 v ∷ []) (sym run.seen))) in
+    first_action script k m (Scan index spans) run is
+    ∙ (ap (λ j. start 0 j (scanned s.indexes) (s.client 0).seen ∷ []) run.next
+    ∙ (ap (λ (xs : List Index). start 0 k (scanned xs) (s.client 0).seen ∷ []) (has_index script k m run b there).0
+    ∙ ap (λ v. start 0 k 0 v ∷ []) (sym run.seen))) in
     let t = state_after n (demand_events script k m run b there) in
     let client = start_client script k m run b there in
     let second : action script (demand_events script k m run b there) 0 ≡ answer 0 k (arc_value b.board) ∷ [] =
-        ap (λ (c : Client). action_by script t 0 c.opened) client
-        ∙ (ap (λ (xs : List Index). answer 0 (t.client 0).next (board_of 0 xs) ∷ []) (start_indexes script k m run b there)
-        ∙ ap (λ (j : ℕ). answer 0 j (arc_value b.board) ∷ []) (ap (λ (c : Client). c.next) client ∙ run.next)) in
+    ap (λ (c : Client). action_by script t 0 c.opened) client
+    ∙ (ap (λ (xs : List Index). answer 0 (t.client 0).next (board_of 0 xs) ∷ []) (start_indexes script k m run b there)
+    ∙ ap (λ (j : ℕ). answer 0 j (arc_value b.board) ∷ []) (ap (λ (c : Client). c.next) client ∙ run.next)) in
     (2, omega arith, e ∙ two_actions script m.events (start 0 k 0 m.seen ∷ []) (answer 0 k (arc_value b.board) ∷ []) first second)

@@ -1,5 +1,5 @@
 -- Mutations applied to the rows of an index, one after another.
-use Rattle.std.proofs.Common.{◌≡◌, ℕ, suc, zero, ◌+◌, ◌<◌, List, [], ◌∷◌, ◌++◌, length, take, fold, Some, None, Option, slice_get, add-one, refl, sym, ap, ◌∙◌, subst, arith}
+use Rattle.std.proofs.Common.{◌≡◌, ℕ, suc, zero, ◌+◌, ◌<◌, List, [], ◌∷◌, ◌++◌, length, take, fold, Some, None, slice_get, add-one, refl, sym, ap, ◌∙◌, subst, arith}
 use Rattle.std.specs.FinMap as map
 use Rattle.n1ql_value.specs.declared.row.Row.{Row}
 use Rattle.n1ql_value.specs.declared.value.Value.{Value}

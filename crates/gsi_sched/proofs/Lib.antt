@@ -3,3 +3,4 @@ mod Histories
 mod Shown
 mod Runs
 mod Actions
+mod Plays

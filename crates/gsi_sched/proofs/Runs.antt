@@ -1,5 +1,5 @@
 -- What the replay has made stays held to its history, command after command.
-use Rattle.std.proofs.Common.{◌≡◌, ◌==◌, Bool, true, false, ℕ, suc, zero, max, ◌+◌, ◌≤◌, ◌<◌, List, [], ◌∷◌, ◌++◌, length, take, Option, Some, None, refl, sym, ap, ◌∙◌, subst, append-nil, arith}
+use Rattle.std.proofs.Common.{◌≡◌, ◌==◌, Bool, true, false, ℕ, max, ◌+◌, ◌≤◌, List, [], ◌∷◌, ◌++◌, length, take, Option, Some, None, refl, sym, ap, ◌∙◌, subst, append-nil, arith}
 use Rattle.std.proofs.lemmas.List.{length-append, take-append-le}
 use Rattle.std.specs.Arc.{arc_value}
 use Rattle.std.specs.List.{AllByRecursion}
@@ -9,7 +9,7 @@ use Rattle.seq_vector.specs.Vectors.{entry, IsCovered, join, zeros, pointwise}
 use Rattle.vb_store.specs.declared.mutation.Mutation.{Mutation}
 use Rattle.vb_store.specs.Mutations.{high_of}
 use Rattle.vb_store.specs.Accepted.{Accepted}
-use Rattle.vb_store.specs.Documents.{Documents, with_mutations, documents_at}
+use Rattle.vb_store.specs.Documents.{with_mutations, documents_at}
 use Rattle.index_state.specs.Keys.{keys_of}
 use Rattle.index_state.specs.RowsById.{RowsById, all_rows}
 use Rattle.index_state.specs.Index.{index_of, scan_of, HoldsKeys}
@@ -17,7 +17,7 @@ use Rattle.std.specs.declared.sync.Arc.{Arc}
 use Rattle.std.specs.declared.alloc.Global.{Global}
 use Rattle.scan_history.specs.declared.script.Script.{Script}
 use Rattle.scan_history.specs.Events.{Event, mutate, define, publish, online, start, answer}
-use Rattle.scan_history.specs.Fold.{published, gone_online, closed, own_step, Client, Opened, nothing, work, started, Index, State, log_step, step, state_after}
+use Rattle.scan_history.specs.Fold.{published, gone_online, closed, own_step, Client, Opened, started, Index, State, log_step, step, state_after}
 use Rattle.scan_history.specs.declared.done.Answered.{Answered}
 use Rattle.scan_history.specs.Answers.{command_at, spans_of, field_of, field_in, started_field, answer_at, answers_of}
 use Rattle.scan_history.specs.RowTexts.{rows_text}
@@ -34,10 +34,10 @@ All-push P [] x h p = (p, tt)
 All-push P (y ∷ ys) x h p = (h.0, All-push P ys x h.1 p)
 
 -- the mutations and the answers of a history, with the answers reached
-record Kept (script : Script) (log : List Mutation) (answers : List Answered) (events : List Event) : Type 0 where
-  log_is : log ≡ (state_after script.vbuckets events).log
-  answers_are : answers ≡ answers_of script events
-  reached : AllByRecursion (IsReached script.vbuckets log) events
+pub record Kept (script : Script) (log : List Mutation) (answers : List Answered) (events : List Event) : Type 0 where
+  pub log_is : log ≡ (state_after script.vbuckets events).log
+  pub answers_are : answers ≡ answers_of script events
+  pub reached : AllByRecursion (IsReached script.vbuckets log) events
 
 -- an event that changes no document
 kept_more : (script : Script) (log : List Mutation) (answers : List Answered) (events : List Event) (e : Event) → Kept script log answers events → log_step (state_after script.vbuckets events).log e ≡ (state_after script.vbuckets events).log → IsReached script.vbuckets log e
@@ -54,10 +54,10 @@ kept_quiet : (script : Script) (log : List Mutation) (answers : List Answered) (
 kept_quiet script log answers events e kept quiet reached none =
     subst (λ (given : List Answered). Kept script log given (events ++ e ∷ [])) (ap (λ more. answers ++ more) none ∙ append-nil answers) (kept_more script log answers events e kept quiet reached)
 
-kept_of : (script : Script) (k : ℕ) (m : Machine) → IsRun script k m → Kept script m.store.log m.answers m.events
+pub kept_of : (script : Script) (k : ℕ) (m : Machine) → IsRun script k m → Kept script m.store.log m.answers m.events
 kept_of script k m run = record { log_is = run.log; answers_are = run.answers; reached = run.reached }
 
-kept_published : (script : Script) (log : List Mutation) (answers : List Answered) (events : List Event) (at : Option (Arc (List ℕ) Global)) → Kept script log answers events → Kept script log answers (events ++ publications at)
+pub kept_published : (script : Script) (log : List Mutation) (answers : List Answered) (events : List Event) (at : Option (Arc (List ℕ) Global)) → Kept script log answers events → Kept script log answers (events ++ publications at)
 kept_published script log answers events None kept = subst (Kept script log answers) (sym (append-nil events)) kept
 kept_published script log answers events (Some at) kept = kept_quiet script log answers events (publish 0 (arc_value at)) kept refl tt refl
 
@@ -138,7 +138,7 @@ stands_new n log b applied state snapshot board no_rows fresh none sized grows g
 }
 
 -- a publication leaves the clients as they are, and moves the board of the one index
-state_published : (n : ℕ) (events : List Event) (at : Option (Arc (List ℕ) Global)) (x : Index) → (state_after n events).indexes ≡ x ∷ [] → x.number ≡ 0
+pub state_published : (n : ℕ) (events : List Event) (at : Option (Arc (List ℕ) Global)) (x : Index) → (state_after n events).indexes ≡ x ∷ [] → x.number ≡ 0
     → ((state_after n (events ++ publications at)).indexes ≡ record x { board = board_after at x.board } ∷ []) × ((state_after n (events ++ publications at)).client 0 ≡ (state_after n events).client 0)
 state_published n events None x is number =
     (ap (λ (s : State). s.indexes) (ap (state_after n) (append-nil events)) ∙ is, ap (λ (s : State). s.client 0) (ap (state_after n) (append-nil events)))
@@ -172,7 +172,7 @@ module _ (script : Script) (k : ℕ) (m : Machine) (run : IsRun script k m) (emp
   abbrev pub fresh_index : Index
   fresh_index = record { number = 0; field = field; online = false; board = zeros n }
 
-  no_indexes : (o : Option Built) (xs : List Index) → o ≡ None → HoldsIndexes n m.store.log o xs → xs ≡ []
+  pub no_indexes : (o : Option Built) (xs : List Index) → o ≡ None → HoldsIndexes n m.store.log o xs → xs ≡ []
   no_indexes None xs e h = h
   no_indexes (Some b) xs e h = absurd (cc)
 
@@ -203,7 +203,7 @@ module _ (script : Script) (k : ℕ) (m : Machine) (run : IsRun script k m) (emp
   kept_created =
       kept_quiet script m.store.log m.answers published_events (online 0 k (0 ∷ []))
       (kept_published script m.store.log m.answers defined_events at
-        (kept_quiet script m.store.log m.answers m.events (define 0 k 0 false field) (kept_of script k m run) refl tt refl)) refl tt refl
+      (kept_quiet script m.store.log m.answers m.events (define 0 k 0 false field) (kept_of script k m run) refl tt refl)) refl tt refl
 
   pub run_created : (m' : Machine) (b : Built) → m'.store ≡ m.store → m'.index ≡ Some b → m'.seen ≡ m.seen → m'.answers ≡ m.answers → m'.events ≡ created_events → b.field ≡ field
       → arc_value b.board ≡ board_after at (zeros n) → StandsFor n m.store.log b → IsRun script (k + 1) m'

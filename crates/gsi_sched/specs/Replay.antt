@@ -1,5 +1,5 @@
 -- The replay of a script: the history that its commands give, one action after another.
-use Rattle.std.specs.Prelude.{ℕ, suc, zero, ◌+◌, ◌*◌, ◌==◌, Bool, false, List, [], ◌∷◌, ◌++◌, length, Option, Some, None, if◌then◌else◌, slice_get}
+use Rattle.std.specs.Prelude.{ℕ, suc, zero, ◌*◌, ◌==◌, false, List, [], ◌∷◌, ◌++◌, length, Some, None, if◌then◌else◌, slice_get}
 use Rattle.std.specs.List.{flat_map, list_any}
 use Rattle.std.specs.Option.{option_map_or}
 use Rattle.std.specs.Str.{bytes_eq}
@@ -56,9 +56,13 @@ abbrev pub after_actions : Script → ℕ → ℕ → List Event → List Event
 after_actions script c zero events = events
 after_actions script c (suc n) events = after_actions script c n (events ++ action script events c)
 
+-- the commands of a client
+abbrev pub commands_of : Script → ℕ → List Command
+commands_of script c = option_map_or (λ commands. commands) (slice_get script.commands c) []
+
 -- a client acts until it has nothing left; no command takes more than two actions
 abbrev pub after_client : Script → ℕ → List Event → List Event
-after_client script c events = after_actions script c (2 * length (option_map_or (λ commands. commands) (slice_get script.commands c) [])) events
+after_client script c events = after_actions script c (2 * length (commands_of script c)) events
 
 -- the clients act one after another
 abbrev pub after_clients : Script → ℕ → List Event

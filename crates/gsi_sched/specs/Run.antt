@@ -1,5 +1,5 @@
 -- What the replay has made so far, held to the history that it has given. For private clauses.
-use Rattle.std.specs.Prelude.{◌≡◌, ℕ, ◌≤◌, List, [], ◌∷◌, length, take, true, Option, Some, None, ⊤}
+use Rattle.std.specs.Prelude.{◌≡◌, ℕ, ◌*◌, ◌≤◌, List, [], ◌∷◌, length, take, drop, true, is_some, Option, Some, None, ⊤}
 use Rattle.std.specs.Arc.{arc_value}
 use Rattle.std.specs.List.{AllByRecursion}
 use Rattle.std.specs.FinMap as map
@@ -15,7 +15,8 @@ use Rattle.scan_history.specs.declared.script.Script.{Script}
 use Rattle.scan_history.specs.Events.{Event, mutate, define, publish, online, start, answer}
 use Rattle.scan_history.specs.Fold.{nothing, Index, State, state_after}
 use Rattle.scan_history.specs.Answers.{answers_of}
-use Rattle.gsi_sched.specs.Replay.{after_actions}
+use Rattle.gsi_sched.specs.Replay.{commands_of, after_actions}
+use Rattle.gsi_sched.specs.Sound.{IsInOrder}
 use Rattle.gsi_sched.specs.declared.built.Built.{Built}
 use Rattle.gsi_sched.specs.declared.machine.Machine.{Machine}
 
@@ -77,3 +78,11 @@ publications (Some at) = publish 0 (arc_value at) ∷ []
 abbrev pub board_after : Option (Arc (List ℕ) Global) → List ℕ → List ℕ
 board_after None board = board
 board_after (Some at) board = arc_value at
+
+-- after the first k commands of client 0: the events are those of its first actions, and the rest of its commands may come
+pub record IsPlayed (script : Script) (k : ℕ) (m : Machine) : Type 0 where
+  pub run : IsRun script k m
+  pub actions : ℕ
+  pub few : actions ≤ 2 * k
+  pub events : m.events ≡ after_actions script 0 actions []
+  pub in_order : IsInOrder (is_some m.index) (drop k (commands_of script 0))

@@ -4,5 +4,10 @@
 #![tactic(auto)]
 
 mod built;
+mod client;
+mod ends;
 mod machine;
 mod rows_text;
+mod whole;
+
+pub use whole::replay;

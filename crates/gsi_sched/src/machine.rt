@@ -14,9 +14,7 @@ use crate::built::{Built, catch_up};
 use crate::rows_text::rows_text;
 use index_state::{nothing_is_the_index_of_nothing, rows_are_the_index};
 use n1ql_value::{ListOf, Memory, Spans, Text, Value};
-use scan_history::{
-    AnswerList, Answered, Event, Events, Happened, Numbers, Script, defined_field,
-};
+use scan_history::{AnswerList, Answered, Event, Events, Happened, Numbers, Script, defined_field};
 use seq_vector::Vector;
 use std::alloc::Global;
 use std::sync::Arc;
@@ -51,7 +49,9 @@ fn mutate(
     growth();
     high_counts();
     let what = machine.store.append(id, body)?;
-    machine.events.push(Happened::new(Event::Mutate { c: 0, k, what }))
+    machine
+        .events
+        .push(Happened::new(Event::Mutate { c: 0, k, what }))
 }
 
 /// The client's command at place `k` puts a document.
@@ -115,7 +115,7 @@ fn define(alloc: Global, field: Text, store: &VbStore) -> Result<Built, Memory>
 }
 
 /// Adds the publication at a vector, where there is one.
-fn push_publication(events: &mut Events, at: Option<Arc<Vector>>) -> Result<(), Memory>
+pub(crate) fn push_publication(events: &mut Events, at: Option<Arc<Vector>>) -> Result<(), Memory>
     ensures { OnOk result (events.new ≡ events.old ++ publications at) }
 {
     match at {
@@ -203,7 +203,9 @@ pub(crate) fn scan(
             }))?;
             machine.seen.join_in(&at);
             machine.answers.push(Answered { c: 0, k, text })?;
-            machine.events.push(Happened::new(Event::Answer { c: 0, k, at }))
+            machine
+                .events
+                .push(Happened::new(Event::Answer { c: 0, k, at }))
         }
     }
 }
