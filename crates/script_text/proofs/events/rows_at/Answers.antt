@@ -1,0 +1,11 @@
+use Rattle.std.proofs.Common.{ap, ◌∙◌, sym}
+use Rattle.std.specs.Option.{option_copied}
+use Rattle.script_text.proofs.ReportLemmas.{first_text-some, first_text-none}
+use Rattle.script_text.proofs.events.rows_at.Goals as goal
+
+pub returns-in-Some : goal.returns-in-Some
+returns-in-Some c =
+    c.as_slice.ensures ∙ first_text-some c.args.answers.now c.args.at c.in-Some.answered.now (sym (ap option_copied c.in-Some.is) ∙ c.get.ensures)
+
+pub returns-in-None : goal.returns-in-None
+returns-in-None c = first_text-none c.args.answers.now c.args.at (sym (ap option_copied c.in-None.is) ∙ c.get.ensures)

@@ -1,0 +1,15 @@
+use Rattle.std.proofs.Common.{◌∷◌, []}
+use Rattle.std.specs.Prelude.{codes, decimal}
+use Rattle.script_text.specs.Lines.{word, vector_text}
+use Rattle.script_text.proofs.LineLemmas.{first_member, next_member, end_of_line}
+use Rattle.script_text.proofs.events.start_line.Goals as goal
+
+pub returns : goal.returns
+returns c =
+    let o = c.args.out.now.items in
+    let h0 = first_member o c.first_number.new.out.items (codes "c", decimal c.args.c) c.in_ok-first_number.ensures in
+    let h1 = next_member o c.first_number.new.out.items c.vector.new.out.items (codes "c", decimal c.args.c) ([]) (codes "d", vector_text c.args.demand.now) h0 c.in_ok-vector.ensures in
+    let h2 = next_member o c.vector.new.out.items c.word.new.out.items (codes "c", decimal c.args.c) ((codes "d", vector_text c.args.demand.now) ∷ []) (codes "e", word (codes "start")) h1 c.in_ok-word.ensures in
+    let h3 = next_member o c.word.new.out.items c.number.new.out.items (codes "c", decimal c.args.c) ((codes "d", vector_text c.args.demand.now) ∷ (codes "e", word (codes "start")) ∷ []) (codes "i", decimal c.args.i) h2 c.in_ok-number.ensures in
+    let h4 = next_member o c.number.new.out.items c.number-2.new.out.items (codes "c", decimal c.args.c) ((codes "d", vector_text c.args.demand.now) ∷ (codes "e", word (codes "start")) ∷ (codes "i", decimal c.args.i) ∷ []) (codes "k", decimal c.args.k) h3 c.in_ok-number-2.ensures in
+    end_of_line o c.number-2.new.out.items c.end_of_line.new.out.items ((codes "c", decimal c.args.c) ∷ (codes "d", vector_text c.args.demand.now) ∷ (codes "e", word (codes "start")) ∷ (codes "i", decimal c.args.i) ∷ (codes "k", decimal c.args.k) ∷ []) h4 c.in_ok-end_of_line.ensures
