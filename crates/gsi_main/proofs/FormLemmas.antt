@@ -4,7 +4,6 @@ use Rattle.std.specs.Prelude.{option_and_then, IfSome, ◌&&◌, ◌==◌, not, 
 use Rattle.std.specs.List.{list_all}
 use Rattle.std.specs.Option.{is_some}
 use Rattle.std.specs.Str.{bytes_eq}
-use Rattle.n1ql_value.specs.declared.datum.Datum.{Datum}
 use Rattle.n1ql_value.specs.declared.text.Text.{Text as Bytes}
 use Rattle.n1ql_value.specs.declared.value.Value.{Value}
 use Rattle.n1ql_value.specs.Datum.{datum_of, pair_of, value_of, value_of-datum_of}

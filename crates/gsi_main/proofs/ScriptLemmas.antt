@@ -10,7 +10,7 @@ use Rattle.gsi_main.specs.declared.kind.Kind.TheVariants.{Unbuilt}
 use Rattle.gsi_main.specs.declared.refusal.Refusal.{Refusal}
 use Rattle.gsi_main.specs.Lines.{is_line_feed, is_blank, in_front, lines_of, numbered_after}
 use Rattle.gsi_main.specs.Forms.{is_header_line, command_of}
-use Rattle.gsi_main.specs.Scripts.{Outcome, script, bad, is_ddl, ahead, commands_from, script_with, outcome_with, outcome_of, NamesField, IsBuilt, ReadsAs}
+use Rattle.gsi_main.specs.Scripts.{script, bad, is_ddl, ahead, commands_from, script_with, outcome_with, outcome_of, NamesField, IsBuilt, ReadsAs}
 use Rattle.gsi_main.proofs.FormLemmas.{command_of-names}
 
 -- one more command behind those that are done

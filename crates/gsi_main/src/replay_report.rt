@@ -11,7 +11,7 @@ use std::alloc::{AllocError, Global};
 
 /// The report of the replay of a script.
 #[tactic(auto, unfolding(crate::specs::ReplayReport::report_of_script))]
-pub(crate) fn report_of(alloc: Global, _script: &Script) -> Result<Vec<u8>, Refusal>
+pub(crate) fn answer_script(alloc: Global, _script: &Script) -> Result<Vec<u8>, Refusal>
     requires { IsBuilt _script.now }
     ensures { Gives (report (report_of_script _script.now)) result }
 {
