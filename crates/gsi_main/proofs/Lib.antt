@@ -1,4 +1,5 @@
 pub mod Transfers
 pub mod LineLemmas
-pub mod ScriptLemmas
 pub mod WordLemmas
+pub mod FormLemmas
+pub mod ScriptLemmas

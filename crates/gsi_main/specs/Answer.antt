@@ -1,16 +1,28 @@
 -- The answer to an input.
 use Rattle.std.specs.Prelude.{◌≡◌, ℕ, List, ⊤, if◌then◌else◌, nat_le, length, Result, Ok, Err, Vec}
 use Rattle.std.specs.declared.alloc.Global.{Global}
+use Rattle.gsi_main.specs.declared.kind.Kind.{Kind}
+use Rattle.gsi_main.specs.declared.what.What.{What}
 use Rattle.gsi_main.specs.declared.what.What.TheVariants.{Input}
 use Rattle.gsi_main.specs.declared.reading.TheConstants.{INPUT_LIMIT}
 use Rattle.gsi_main.specs.declared.refusal.Refusal.{Refusal}
 use Rattle.gsi_main.specs.declared.refusal.Refusal.TheVariants.{BadLine, TooLarge, Memory}
-use Rattle.gsi_main.specs.Lines.{lines_of, numbered_after}
-use Rattle.gsi_main.specs.Scripts.{Answer, report, bad_line, too_large, answer_to}
+use Rattle.gsi_main.specs.Scripts.{Outcome, script, bad, script_of}
+use Rattle.gsi_main.specs.ReplayReport.{report_of_script}
+
+-- the report of the replay; or the first bad line, and what is wrong with it; or what passed its limit
+pub data Answer : Type 0 where
+  report : List ℕ → Answer
+  bad_line : ℕ → Kind → Answer
+  too_large : What → ℕ → Answer
+
+abbrev pub answer_to : Outcome → Answer
+answer_to (script read) = report (report_of_script read)
+answer_to (bad line kind) = bad_line line kind
 
 -- the answer to an input that is no longer than the limit
 unfoldable pub answer_of : List ℕ → Answer
-answer_of input = answer_to (numbered_after 0 (lines_of input))
+answer_of input = answer_to (script_of input)
 
 -- the answer to an input
 abbrev pub for_input : List ℕ → Answer

@@ -5,6 +5,8 @@ pub mod Reading
 pub mod Writing
 pub mod Status
 pub mod Lines
-pub mod Answer
+pub mod Forms
 pub mod Scripts
+pub mod ReplayReport
+pub mod Answer
 pub mod Replay

@@ -3,8 +3,7 @@ use Rattle.std.specs.Prelude.{◌≡◌, ℕ, List, [], ◌∷◌, codes, take, 
 use Rattle.std.specs.Io.KnownBytes.{Appends, IsAtEnd}
 use Rattle.gsi_main.specs.declared.status.Status.{Status}
 use Rattle.gsi_main.specs.declared.status.Status.TheVariants.{Done, Words, Script, ReadFault, WriteFault, Memory, TooLarge}
-use Rattle.gsi_main.specs.Scripts.{Answer, report, bad_line, too_large}
-use Rattle.gsi_main.specs.Answer.{for_input}
+use Rattle.gsi_main.specs.Answer.{Answer, report, bad_line, too_large, for_input}
 
 -- the one word `replay`
 abbrev pub IsReplay : List (List ℕ) → Type 0

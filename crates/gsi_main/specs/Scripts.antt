@@ -1,67 +1,85 @@
--- The script that the lines of an input are, and what is answered to it.
-use Rattle.std.specs.Prelude.{ℕ, ◌+◌, List, [], ◌∷◌, ◌++◌, codes, Bool, false, ◌&&◌, ◌==◌, if◌then◌else◌, Option, Some, None, option_and_then}
-use Rattle.std.specs.Option.{option_map_or}
-use Rattle.std.specs.Str.{is_utf8}
-use Rattle.serde_json.specs.Data.{Data, unsigned, number, string, array, object, no_items, Members, no_members, member}
-use Rattle.serde_json.specs.Read.{read}
-use Rattle.serde_json.specs.Find.{get, as_number, as_object, as_u64}
-use Rattle.serde_json.specs.Written.{compact_text}
+-- The script that an input is.
+use Rattle.std.specs.Prelude.{◌≡◌, ℕ, ◌<◌, ◌^◌, List, [], ◌∷◌, ◌++◌, length, codes, Bool, true, false, ◌||◌, if◌then◌else◌, Result, Ok, Err, ⊤}
+use Rattle.std.specs.List.{All}
+use Rattle.std.specs.Option.{option_map_or, IsSome}
+use Rattle.scan_history.specs.declared.command.Command.{Command}
+use Rattle.scan_history.specs.declared.command.Command.TheVariants.{Upsert, Delete, Ddl, Scan}
+use Rattle.scan_history.specs.declared.script.Script.{Script}
+use Rattle.scan_history.specs.Ddl.{defined_field}
 use Rattle.gsi_main.specs.declared.kind.Kind.{Kind}
 use Rattle.gsi_main.specs.declared.kind.Kind.TheVariants.{Unbuilt}
-use Rattle.gsi_main.specs.declared.what.What.{What}
+use Rattle.gsi_main.specs.declared.refusal.Refusal.{Refusal}
+use Rattle.gsi_main.specs.declared.refusal.Refusal.TheVariants.{BadLine, TooLarge, Memory}
+use Rattle.gsi_main.specs.Forms.{is_header_line, command_of}
+use Rattle.gsi_main.specs.Lines.{lines_of, numbered_after}
 
--- the report of the replay; or the first bad line, and what is wrong with it; or what passed its limit
-pub data Answer : Type 0 where
-  report : List ℕ → Answer
-  bad_line : ℕ → Kind → Answer
-  too_large : What → ℕ → Answer
+-- a script; or the number of the first bad line, and what is wrong with it
+pub data Outcome : Type 0 where
+  script : Script → Outcome
+  bad : ℕ → Kind → Outcome
 
--- the JSON that a line is (RFC 8259, in UTF-8)
-abbrev pub data_of : List ℕ → Option Data
-data_of line = if is_utf8 line then read line else None
+abbrev pub is_ddl : Command → Bool
+is_ddl (Upsert id doc) = false
+is_ddl (Delete id) = false
+is_ddl (Ddl text) = true
+is_ddl (Scan index spans) = false
 
-abbrev pub member_count : Members → ℕ
-member_count no_members = 0
-member_count (member name value others) = member_count others + 1
+-- these commands, and then the others
+abbrev pub ahead : List Command → Result (List Command) ℕ → Result (List Command) ℕ
+ahead commands (Ok others) = Ok (commands ++ others)
+ahead commands (Err line) = Err line
 
--- how many members an object has, and no count of what is no object
-abbrev pub size_of : Data → Option ℕ
-size_of value = option_and_then (λ members. Some (member_count members)) (as_object value)
+-- the commands of numbered lines, or the number of the first line that is none; `defined` tells whether an index was
+-- defined before
+abbrev pub commands_from : Bool → List (ℕ × List ℕ) → Result (List Command) ℕ
+commands_from defined [] = Ok []
+commands_from defined (line ∷ lines) =
+    option_map_or (λ command. ahead (command ∷ []) (commands_from (defined || is_ddl command) lines)) (command_of defined line.1) (Err line.0)
 
--- the whole number from 0 to 2^64 - 1 at a name
-abbrev pub number_at : List ℕ → Data → Option ℕ
-number_at name value = option_and_then as_u64 (option_and_then as_number (get name value))
+abbrev pub script_with : List Command → Script
+script_with commands =
+    record { vbuckets = 1; clients = 1; workers = 2; batch = 64; keyspace = codes "ks"; commands = commands ∷ [] }
 
-abbrev pub is_number : ℕ → Option ℕ → Bool
-is_number n found = option_map_or (λ m. m == n) found false
+abbrev pub outcome_with : Result (List Command) ℕ → Outcome
+outcome_with (Ok commands) = script (script_with commands)
+outcome_with (Err line) = bad line Unbuilt
 
--- an object of exactly the members gsi, vbuckets and clients, each of them 1
-abbrev pub is_header : Data → Bool
-is_header value =
-    is_number 3 (size_of value) && is_number 1 (number_at (codes "gsi") value) && is_number 1 (number_at (codes "vbuckets") value)
-    && is_number 1 (number_at (codes "clients") value)
+-- all lines that aren't blank, each with its number: the header, and then commands
+abbrev pub outcome_of : List (ℕ × List ℕ) → Outcome
+outcome_of [] = bad 1 Unbuilt
+outcome_of (line ∷ lines) = if is_header_line line.1 then outcome_with (commands_from false lines) else bad line.0 Unbuilt
 
-abbrev pub is_header_line : List ℕ → Bool
-is_header_line line = option_map_or is_header (data_of line) false
+-- the script that an input is
+unfoldable pub script_of : List ℕ → Outcome
+script_of input = outcome_of (numbered_after 0 (lines_of input))
 
--- the end of the report of no events
-abbrev pub end : Data
-end =
-    object (member (codes "e") (string (codes "end"))
-    (member (codes "events") (number (unsigned 0))
-    (member (codes "high") (object no_members)
-    (member (codes "indexes") (array no_items) no_members))))
+-- the function gives the outcome, or memory ran out
+abbrev pub ReadsAs : Outcome → Result Script Refusal → Type 0
+ReadsAs outcome (Ok found) = outcome ≡ script found
+ReadsAs outcome (Err (BadLine line kind)) = outcome ≡ bad line kind
+ReadsAs outcome (Err (TooLarge what limit)) = ⊥
+ReadsAs outcome (Err Memory) = ⊤
 
-abbrev pub end_line : List ℕ
-end_line = compact_text end ++ 10 ∷ []
+-- the same of commands, where a line is the first bad one
+abbrev pub CommandsReadAs : Result (List Command) ℕ → Result (List Command) Refusal → Type 0
+CommandsReadAs outcome (Ok found) = outcome ≡ Ok found
+CommandsReadAs outcome (Err (BadLine line kind)) = (outcome ≡ Err line) × (kind ≡ Unbuilt)
+CommandsReadAs outcome (Err (TooLarge what limit)) = ⊥
+CommandsReadAs outcome (Err Memory) = ⊤
 
--- the lines behind the header, each with its number
-abbrev pub answer_behind_header : List (ℕ × List ℕ) → Answer
-answer_behind_header [] = report end_line
-answer_behind_header (line ∷ lines) = bad_line line.0 Unbuilt
+-- what defines an index names its field
+abbrev pub NamesField : Command → Type 0
+NamesField (Upsert id doc) = ⊤
+NamesField (Delete id) = ⊤
+NamesField (Ddl text) = IsSome (defined_field text)
+NamesField (Scan index spans) = ⊤
 
--- all lines that aren't blank, each with its number
-abbrev pub answer_to : List (ℕ × List ℕ) → Answer
-answer_to [] = bad_line 1 Unbuilt
-answer_to (line ∷ lines) =
-    if is_header_line line.1 then answer_behind_header lines else bad_line line.0 Unbuilt
+-- what is known of a script that was read: it is one client's and has one vBucket, its commands can be counted in 32 bits,
+-- and each definition names its field
+pub record IsBuilt (read : Script) : Type 0 where
+  pub one_vbucket : read.vbuckets ≡ 1
+  pub one_client : read.clients ≡ 1
+  pub commands : List Command
+  pub of_one : read.commands ≡ commands ∷ []
+  pub few : length commands < 2 ^ 32
+  pub name_fields : All NamesField commands

@@ -1,14 +1,19 @@
 //! The top calls of the index service: from the bytes of a script to the bytes of its report.
 #![tactic(auto)]
 
+mod answer;
+mod command;
 mod giving;
+mod header;
 mod kind;
 mod lines;
 mod mem_sink;
 mod mem_source;
+mod members;
 mod reading;
 mod refusal;
 mod replay;
+mod replay_report;
 mod script;
 mod sink;
 mod source;

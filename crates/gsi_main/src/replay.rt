@@ -4,9 +4,9 @@ ghost use Rattle.gsi_main.specs.Faults.{Rose};
 ghost use Rattle.gsi_main.specs.Reading.{TookPast};
 ghost use Rattle.gsi_main.specs.Replay.{IsReplay, IsFor, Replayed, PartlyReplayed};
 
+use crate::answer::answer_for;
 use crate::reading::{INPUT_LIMIT, Unread, read_input};
 use crate::refusal::Refusal;
-use crate::script::answer_for;
 use crate::sink::Sink;
 use crate::source::Source;
 use crate::status::Status;

@@ -62,6 +62,61 @@ fn scripts(rt: HostRuntime) -> Result<(), Fail> {
     Ok(())
 }
 
+const UPSERT: &str = "{\"c\":0,\"do\":\"upsert\",\"id\":\"a\",\"doc\":{\"x\":-1,\"y\":2}}";
+
+const DDL: &str = "{\"c\":0,\"do\":\"ddl\",\"q\":\"CREATE INDEX ix ON ks(x)\"}";
+
+const SCAN: &str = "{\"index\":\"ix\",\"do\":\"scan\",\"c\":0}";
+
+#[test]
+fn commands(rt: HostRuntime) -> Result<(), Fail> {
+    let delete = "{\"c\":0,\"do\":\"delete\",\"id\":\"\\u00e9\"}";
+    for (second, third, bad_line) in [
+        (UPSERT, delete, 0u64),
+        (DDL, SCAN, 0),
+        (SCAN, DDL, 2),
+        (DDL, DDL, 3),
+        (UPSERT, "{", 3),
+        (UPSERT, "[]", 3),
+        ("{\"c\":1,\"do\":\"delete\",\"id\":\"a\"}", "{}", 2),
+        ("{\"c\":0,\"do\":\"delete\",\"id\":\"\"}", "{}", 2),
+        ("{\"c\":0,\"do\":\"delete\",\"id\":\"a\",\"x\":1}", "{}", 2),
+        (
+            "{\"c\":0,\"do\":\"upsert\",\"id\":\"a\",\"doc\":[1]}",
+            "{}",
+            2,
+        ),
+        (
+            "{\"c\":0,\"do\":\"upsert\",\"id\":\"a\",\"doc\":{\"x\":1.5}}",
+            "{}",
+            2,
+        ),
+        (
+            "{\"c\":0,\"do\":\"upsert\",\"id\":\"a\",\"doc\":{\"x\":\"1\"}}",
+            "{}",
+            2,
+        ),
+        (
+            "{\"c\":0,\"do\":\"ddl\",\"q\":\"CREATE INDEX ix ON ks(xy)\"}",
+            "{}",
+            2,
+        ),
+    ] {
+        let input = format!(in rt.alloc(); "{HEADER}\n{second}\n{third}")?;
+        let (found, _held) = answered(rt.alloc(), input.as_str(), &[], &[])?;
+        let status = if bad_line == 0 {
+            Status::Done
+        } else {
+            Status::Script {
+                line: bad_line,
+                kind: Kind::Unbuilt,
+            }
+        };
+        assert!(rt; found == status, "{input}");
+    }
+    Ok(())
+}
+
 #[test]
 fn faults(rt: HostRuntime) -> Result<(), Fail> {
     for (source_fails, sink_fails, status, held_len) in [

@@ -1,7 +1,7 @@
 use Rattle.std.proofs.Common.{◌≡◌, ◌∷◌, [], ◌++◌, ap, ◌∙◌}
 use Rattle.serde_json.specs.Written.{compact_text, has_float}
-use Rattle.gsi_main.specs.Scripts.{end}
-use Rattle.gsi_main.proofs.script.end_line.Goals as goal
+use Rattle.gsi_main.specs.ReplayReport.{end}
+use Rattle.gsi_main.proofs.replay_report.end_line.Goals as goal
 
 pub returns : goal.returns
 returns c =
