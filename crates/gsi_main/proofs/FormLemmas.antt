@@ -14,7 +14,7 @@ use Rattle.n1ql_json.specs.Reads.{read_of, Gives}
 use Rattle.scan_history.specs.declared.command.Command.{Command}
 use Rattle.scan_history.specs.declared.command.Command.TheVariants.{Upsert, Delete, Ddl, Scan}
 use Rattle.gsi_main.specs.Forms.{Members, object_in, number_in, members_of, value_at, where_true, is_statement, has_numbers, has_number, text_at, id_at, document_at, is_index_name, command_named, command_in, command_of, upsert_in, delete_in, ddl_in, scan_in}
-use Rattle.gsi_main.specs.Scripts.{NamesField}
+use Rattle.gsi_sched.specs.Sound.{MayCome}
 
 -- a line that is a value
 pub members_of-read : (line : List ℕ) (v : Value) (found : Option Members) → read_of line ≡ Ok (datum_of v) → found ≡ object_in v → found ≡ members_of line
@@ -54,53 +54,59 @@ module _ {A B : Type 0} (P : B → Type 0) where
   map_cases f None h = tt
   map_cases f (Some a) h = h a
 
-statement_cases : (text : List ℕ) (b : Bool) → is_statement text ≡ b → IfSome (option_map (λ t. Ddl t) (cond b (Some text) None)) NamesField
-statement_cases text true e = e
+statement_cases : (text : List ℕ) (b : Bool) → is_statement text ≡ b → IfSome (option_map (λ t. Ddl t) (cond b (Some text) None)) (MayCome false)
+statement_cases text true e = (refl, e)
 statement_cases text false e = tt
 
-ddl_names : (o : Option (List ℕ)) → IfSome (option_map (λ t. Ddl t) (option_and_then (where_true is_statement) o)) NamesField
-ddl_names None = tt
-ddl_names (Some text) = statement_cases text (is_statement text) refl
+ddl_comes : (o : Option (List ℕ)) → IfSome (option_map (λ t. Ddl t) (option_and_then (where_true is_statement) o)) (MayCome false)
+ddl_comes None = tt
+ddl_comes (Some text) = statement_cases text (is_statement text) refl
 
-upsert_in-names : (members : Members) → IfSome (upsert_in members) NamesField
-upsert_in-names members =
+upsert_in-comes : (defined : Bool) (members : Members) → IfSome (upsert_in members) (MayCome defined)
+upsert_in-comes defined members =
     let upsert : List ℕ → Option Command = λ id. option_map (λ doc. Upsert id doc) (document_at members) in
-    if_cases NamesField (length members == 4) (option_and_then upsert (id_at members)) None
-    (then_cases NamesField upsert (id_at members) (λ id. map_cases NamesField (λ doc. Upsert id doc) (document_at members) (λ doc. tt))) tt
+    if_cases (MayCome defined) (length members == 4) (option_and_then upsert (id_at members)) None
+    (then_cases (MayCome defined) upsert (id_at members) (λ id. map_cases (MayCome defined) (λ doc. Upsert id doc) (document_at members) (λ doc. tt))) tt
 
-delete_in-names : (members : Members) → IfSome (delete_in members) NamesField
-delete_in-names members =
-    if_cases NamesField (length members == 3) (option_map (λ id. Delete id) (id_at members)) None
-    (map_cases NamesField (λ id. Delete id) (id_at members) (λ id. tt)) tt
+delete_in-comes : (defined : Bool) (members : Members) → IfSome (delete_in members) (MayCome defined)
+delete_in-comes defined members =
+    if_cases (MayCome defined) (length members == 3) (option_map (λ id. Delete id) (id_at members)) None
+    (map_cases (MayCome defined) (λ id. Delete id) (id_at members) (λ id. tt)) tt
 
-ddl_in-names : (defined : Bool) (members : Members) → IfSome (ddl_in defined members) NamesField
-ddl_in-names defined members =
-    let found = text_at (codes "q") members in
-    if_cases NamesField ((length members == 3) && not defined) (option_map (λ text. Ddl text) (option_and_then (where_true is_statement) found)) None
-    (ddl_names found) tt
+ddl_cases : (b defined : Bool) (found : Option (List ℕ)) → IfSome (if b && not defined then option_map (λ t. Ddl t) (option_and_then (where_true is_statement) found) else None) (MayCome defined)
+ddl_cases true true found = tt
+ddl_cases false true found = tt
+ddl_cases true false found = ddl_comes found
+ddl_cases false false found = tt
 
-scan_in-names : (defined : Bool) (members : Members) → IfSome (scan_in defined members) NamesField
-scan_in-names defined members =
-    let found = option_and_then (where_true is_index_name) (text_at (codes "index") members) in
-    if_cases NamesField ((length members == 3) && defined) (option_map (λ name. Scan name ([] ∷ [])) found) None
-    (map_cases NamesField (λ name. Scan name ([] ∷ [])) found (λ name. tt)) tt
+ddl_in-comes : (defined : Bool) (members : Members) → IfSome (ddl_in defined members) (MayCome defined)
+ddl_in-comes defined members = ddl_cases (length members == 3) defined (text_at (codes "q") members)
 
-command_named-names : (defined : Bool) (members : Members) (word : List ℕ) → IfSome (command_named defined members word) NamesField
-command_named-names defined members word =
+scan_cases : (b defined : Bool) (found : Option (List ℕ)) → IfSome (if b && defined then option_map (λ name. Scan name ([] ∷ [])) found else None) (MayCome defined)
+scan_cases true true found = map_cases (MayCome true) (λ name. Scan name ([] ∷ [])) found (λ name. refl)
+scan_cases false true found = tt
+scan_cases true false found = tt
+scan_cases false false found = tt
+
+scan_in-comes : (defined : Bool) (members : Members) → IfSome (scan_in defined members) (MayCome defined)
+scan_in-comes defined members = scan_cases (length members == 3) defined (option_and_then (where_true is_index_name) (text_at (codes "index") members))
+
+command_named-comes : (defined : Bool) (members : Members) (word : List ℕ) → IfSome (command_named defined members word) (MayCome defined)
+command_named-comes defined members word =
     let scan = if bytes_eq word (codes "scan") then scan_in defined members else None in
     let ddl = if bytes_eq word (codes "ddl") then ddl_in defined members else scan in
     let delete = if bytes_eq word (codes "delete") then delete_in members else ddl in
-    if_cases NamesField (bytes_eq word (codes "upsert")) (upsert_in members) delete (upsert_in-names members)
-    (if_cases NamesField (bytes_eq word (codes "delete")) (delete_in members) ddl (delete_in-names members)
-    (if_cases NamesField (bytes_eq word (codes "ddl")) (ddl_in defined members) scan (ddl_in-names defined members)
-    (if_cases NamesField (bytes_eq word (codes "scan")) (scan_in defined members) None (scan_in-names defined members) tt)))
+    if_cases (MayCome defined) (bytes_eq word (codes "upsert")) (upsert_in members) delete (upsert_in-comes defined members)
+    (if_cases (MayCome defined) (bytes_eq word (codes "delete")) (delete_in members) ddl (delete_in-comes defined members)
+    (if_cases (MayCome defined) (bytes_eq word (codes "ddl")) (ddl_in defined members) scan (ddl_in-comes defined members)
+    (if_cases (MayCome defined) (bytes_eq word (codes "scan")) (scan_in defined members) None (scan_in-comes defined members) tt)))
 
-command_in-names : (defined : Bool) (members : Members) → IfSome (command_in defined members) NamesField
-command_in-names defined members =
+command_in-comes : (defined : Bool) (members : Members) → IfSome (command_in defined members) (MayCome defined)
+command_in-comes defined members =
     let word = text_at (codes "do") members in
-    if_cases NamesField (has_number (codes "c") (pos 0) members) (option_and_then (command_named defined members) word) None
-    (then_cases NamesField (command_named defined members) word (command_named-names defined members)) tt
+    if_cases (MayCome defined) (has_number (codes "c") (pos 0) members) (option_and_then (command_named defined members) word) None
+    (then_cases (MayCome defined) (command_named defined members) word (command_named-comes defined members)) tt
 
--- a line that defines an index names its field
-pub command_of-names : (defined : Bool) (line : List ℕ) → IfSome (command_of defined line) NamesField
-command_of-names defined line = then_cases NamesField (command_in defined) (members_of line) (command_in-names defined)
+-- a line that is a command is one that may come
+pub command_of-comes : (defined : Bool) (line : List ℕ) → IfSome (command_of defined line) (MayCome defined)
+command_of-comes defined line = then_cases (MayCome defined) (command_in defined) (members_of line) (command_in-comes defined)

@@ -8,16 +8,17 @@ use Rattle.gsi_main.specs.declared.reading.TheConstants.{INPUT_LIMIT}
 use Rattle.gsi_main.specs.declared.refusal.Refusal.{Refusal}
 use Rattle.gsi_main.specs.declared.refusal.Refusal.TheVariants.{BadLine, TooLarge, Memory}
 use Rattle.gsi_main.specs.Scripts.{Outcome, script, bad, script_of}
-use Rattle.gsi_main.specs.ReplayReport.{report_of_script}
+use Rattle.gsi_sched.specs.Replay.{replay_of}
+use Rattle.script_text.specs.Reports.{report_of}
 
--- the report of the replay; or the first bad line, and what is wrong with it; or what passed its limit
+-- the report of the replay's history; or the first bad line, and what is wrong with it; or what passed its limit
 pub data Answer : Type 0 where
   report : List ℕ → Answer
   bad_line : ℕ → Kind → Answer
   too_large : What → ℕ → Answer
 
 abbrev pub answer_to : Outcome → Answer
-answer_to (script read) = report (report_of_script read)
+answer_to (script read) = report (report_of read (replay_of read))
 answer_to (bad line kind) = bad_line line kind
 
 -- the answer to an input that is no longer than the limit

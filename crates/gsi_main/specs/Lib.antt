@@ -7,6 +7,5 @@ pub mod Status
 pub mod Lines
 pub mod Forms
 pub mod Scripts
-pub mod ReplayReport
 pub mod Answer
 pub mod Replay

@@ -1,11 +1,9 @@
 -- The script that an input is.
-use Rattle.std.specs.Prelude.{◌≡◌, ℕ, ◌<◌, ◌^◌, List, [], ◌∷◌, ◌++◌, length, codes, Bool, true, false, ◌||◌, if◌then◌else◌, Result, Ok, Err, ⊤}
-use Rattle.std.specs.List.{All}
-use Rattle.std.specs.Option.{option_map_or, IsSome}
+use Rattle.std.specs.Prelude.{◌≡◌, ℕ, List, [], ◌∷◌, ◌++◌, codes, Bool, true, false, ◌||◌, if◌then◌else◌, Result, Ok, Err, ⊤}
+use Rattle.std.specs.Option.{option_map_or}
 use Rattle.scan_history.specs.declared.command.Command.{Command}
 use Rattle.scan_history.specs.declared.command.Command.TheVariants.{Upsert, Delete, Ddl, Scan}
 use Rattle.scan_history.specs.declared.script.Script.{Script}
-use Rattle.scan_history.specs.Ddl.{defined_field}
 use Rattle.gsi_main.specs.declared.kind.Kind.{Kind}
 use Rattle.gsi_main.specs.declared.kind.Kind.TheVariants.{Unbuilt}
 use Rattle.gsi_main.specs.declared.refusal.Refusal.{Refusal}
@@ -66,20 +64,3 @@ CommandsReadAs outcome (Ok found) = outcome ≡ Ok found
 CommandsReadAs outcome (Err (BadLine line kind)) = (outcome ≡ Err line) × (kind ≡ Unbuilt)
 CommandsReadAs outcome (Err (TooLarge what limit)) = ⊥
 CommandsReadAs outcome (Err Memory) = ⊤
-
--- what defines an index names its field
-abbrev pub NamesField : Command → Type 0
-NamesField (Upsert id doc) = ⊤
-NamesField (Delete id) = ⊤
-NamesField (Ddl text) = IsSome (defined_field text)
-NamesField (Scan index spans) = ⊤
-
--- what is known of a script that was read: it is one client's and has one vBucket, its commands can be counted in 32 bits,
--- and each definition names its field
-pub record IsBuilt (read : Script) : Type 0 where
-  pub one_vbucket : read.vbuckets ≡ 1
-  pub one_client : read.clients ≡ 1
-  pub commands : List Command
-  pub of_one : read.commands ≡ commands ∷ []
-  pub few : length commands < 2 ^ 32
-  pub name_fields : All NamesField commands

@@ -1,9 +1,9 @@
 ghost use Rattle.std.specs.Prelude.{◌≤◌, length};
 ghost use Rattle.gsi_main.specs.Answer.{Gives, answer_of};
 
+use crate::history::replay_report;
 use crate::reading::INPUT_LIMIT;
 use crate::refusal::Refusal;
-use crate::replay_report::answer_script;
 use crate::script::read_script;
 use std::alloc::Global;
 
@@ -14,7 +14,7 @@ pub(crate) fn answer_for(alloc: Global, input: &[u8]) -> Result<Vec<u8>, Refusal
     ensures { Gives (answer_of input.now) result }
 {
     match read_script(alloc, input) {
-        Ok(script) => answer_script(alloc, &script),
+        Ok(script) => Ok(replay_report(alloc, script)?),
         Err(refusal) => Err(refusal),
     }
 }

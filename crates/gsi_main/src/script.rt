@@ -1,6 +1,7 @@
 ghost use Rattle.std.specs.Prelude.{◌≡◌, ◌≤◌, false, length, IfOk, MatchResult};
+ghost use Rattle.gsi_sched.specs.Sound.{IsSound};
 ghost use Rattle.gsi_main.specs.Forms.{is_header_line};
-ghost use Rattle.gsi_main.specs.Scripts.{ReadsAs, IsBuilt, script_of, outcome_of, outcome_with, commands_from, script_with, is_ddl, CommandsReadAs};
+ghost use Rattle.gsi_main.specs.Scripts.{ReadsAs, script_of, outcome_of, outcome_with, commands_from, script_with, is_ddl, CommandsReadAs};
 
 use crate::command::command_of;
 use crate::header::is_header_line;
@@ -21,7 +22,7 @@ use std::alloc::Global;
 pub(crate) fn read_script(alloc: Global, input: &[u8]) -> Result<Script, Refusal>
     requires { length input.now ≤ INPUT_LIMIT }
     ensures gives { ReadsAs (script_of input.now) result }
-    ensures built { IfOk result (λ script. IsBuilt script) }
+    ensures sound { IfOk result (λ script. IsSound script) }
 {
     script_in(alloc, Lines::new(input))
 }
