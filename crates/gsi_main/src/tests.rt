@@ -241,3 +241,24 @@ fn over_what_fails(rt: HostRuntime) -> Result<(), Fail> {
     }
     Ok(())
 }
+
+/// A document that is indexed and scanned; and the same where it is deleted before the scan, which still answers from the
+/// newest publication.
+#[test]
+fn reports(rt: HostRuntime) -> Result<(), Fail> {
+    for (input, report) in [
+        (
+            "{\"gsi\":1,\"vbuckets\":1,\"clients\":1}\n{\"c\":0,\"do\":\"upsert\",\"id\":\"a\",\"doc\":{\"x\":5}}\n{\"c\":0,\"do\":\"ddl\",\"q\":\"CREATE INDEX ix ON ks(x)\"}\n{\"c\":0,\"do\":\"scan\",\"index\":\"ix\"}\n",
+            "{\"c\":0,\"e\":\"mutate\",\"k\":0,\"seq\":1,\"vb\":0}\n{\"c\":0,\"e\":\"define\",\"i\":0,\"k\":1,\"state\":\"building\"}\n{\"e\":\"publish\",\"i\":0,\"v\":{\"0\":1}}\n{\"c\":0,\"e\":\"online\",\"indexes\":[0],\"k\":1}\n{\"c\":0,\"d\":{},\"e\":\"start\",\"i\":0,\"k\":2}\n{\"c\":0,\"e\":\"answer\",\"k\":2,\"rows\":[{\"id\":\"a\",\"keys\":[[5]]}],\"v\":{\"0\":1}}\n{\"e\":\"end\",\"events\":6,\"high\":{\"0\":1},\"indexes\":[{\"i\":0,\"name\":\"ix\",\"rows\":1,\"state\":\"online\",\"v\":{\"0\":1}}]}\n",
+        ),
+        (
+            "{\"gsi\":1,\"vbuckets\":1,\"clients\":1}\n{\"c\":0,\"do\":\"upsert\",\"id\":\"a\",\"doc\":{\"x\":5}}\n{\"c\":0,\"do\":\"ddl\",\"q\":\"CREATE INDEX ix ON ks(x)\"}\n{\"c\":0,\"do\":\"delete\",\"id\":\"a\"}\n{\"c\":0,\"do\":\"scan\",\"index\":\"ix\"}\n",
+            "{\"c\":0,\"e\":\"mutate\",\"k\":0,\"seq\":1,\"vb\":0}\n{\"c\":0,\"e\":\"define\",\"i\":0,\"k\":1,\"state\":\"building\"}\n{\"e\":\"publish\",\"i\":0,\"v\":{\"0\":1}}\n{\"c\":0,\"e\":\"online\",\"indexes\":[0],\"k\":1}\n{\"c\":0,\"e\":\"mutate\",\"k\":2,\"seq\":2,\"vb\":0}\n{\"c\":0,\"d\":{},\"e\":\"start\",\"i\":0,\"k\":3}\n{\"c\":0,\"e\":\"answer\",\"k\":3,\"rows\":[{\"id\":\"a\",\"keys\":[[5]]}],\"v\":{\"0\":1}}\n{\"e\":\"publish\",\"i\":0,\"v\":{\"0\":2}}\n{\"e\":\"end\",\"events\":8,\"high\":{\"0\":2},\"indexes\":[{\"i\":0,\"name\":\"ix\",\"rows\":0,\"state\":\"online\",\"v\":{\"0\":2}}]}\n",
+        ),
+    ] {
+        let (found, held) = answered(rt.alloc(), input, &[], &[])?;
+        assert!(rt; found == Status::Done, "{input}");
+        assert!(rt; held.as_slice() == report.as_bytes(), "{input}");
+    }
+    Ok(())
+}
