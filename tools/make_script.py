@@ -1,5 +1,5 @@
 #!/usr/bin/env python3
-"""Prints a script of one client: an index, COUNT upserts of distinct ids in random order, and one scan.
+"""Prints a script of one client: COUNT upserts of distinct ids in random order, then an index and one scan.
 
 usage: make_script.py COUNT [SEED]
 """
