@@ -1,5 +1,5 @@
 -- The answers of a history, and how its indexes ended.
-use Rattle.std.specs.Prelude.{ℕ, ◌==◌, List, [], ◌∷◌, ◌++◌, map, length, Option, Some, None, option_and_then, slice_get, codes, if◌then◌else◌}
+use Rattle.std.specs.Prelude.{ℕ, ◌==◌, List, [], ◌∷◌, ◌++◌, map, length, Option, Some, None, option_and_then, slice_get, if◌then◌else◌}
 use Rattle.n1ql_value.specs.declared.range.Range.{Range}
 use Rattle.vb_store.specs.declared.mutation.Mutation.{Mutation}
 use Rattle.vb_store.specs.Documents.{documents_at}
@@ -12,6 +12,7 @@ use Rattle.scan_history.specs.declared.done.End.{End}
 use Rattle.scan_history.specs.Events.{Event, mutate, define, publish, online, start, answer}
 use Rattle.scan_history.specs.Fold.{Opened, nothing, work, started, Index, State, first_state, step, state_after}
 use Rattle.scan_history.specs.RowTexts.{rows_text}
+use Rattle.scan_history.specs.Ddl.{index_name}
 
 -- command k of client c
 abbrev pub command_at : Script → ℕ → ℕ → Option Command
@@ -58,9 +59,9 @@ answers_from script log s (e ∷ es) = answer_at script log s e ++ answers_from 
 unfoldable pub answers_of : Script → List Event → List Answered
 answers_of script events = answers_from script (state_after script.vbuckets events).log (first_state script.vbuckets) events
 
--- how an index ended: with the rows of its newest publication
+-- how an index ended: under the one name that there is so far, with the rows of its newest publication
 abbrev pub end_of : List Mutation → Index → End
-end_of log x = record { i = x.number; name = codes "ix"; online = x.online; vector = x.board; rows = length (index_of x.field (documents_at log x.board)) }
+end_of log x = record { i = x.number; name = index_name; online = x.online; vector = x.board; rows = length (index_of x.field (documents_at log x.board)) }
 
 -- how the live indexes of a history ended
 unfoldable pub ends_of : Script → List Event → List End

@@ -16,3 +16,7 @@ defined_field text =
 -- the same as a name; no name where the text is another
 abbrev pub field_name : List ℕ → List ℕ
 field_name text = option_map_or (λ letter. letter ∷ []) (defined_field text) []
+
+-- the name of that index
+abbrev pub index_name : List ℕ
+index_name = codes "ix"

@@ -4,3 +4,4 @@ pub mod Fold
 pub mod RowTexts
 pub mod Answers
 pub mod Ddl
+pub mod Sound
