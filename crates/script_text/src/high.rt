@@ -9,12 +9,14 @@ use n1ql_value::Memory;
 use scan_history::{Event, Happened};
 use seq_vector::{Vector, zero};
 use std::alloc::Global;
+use vb_store::laws::high_counts;
 
 /// The newest number of each of the `n` vBuckets after the events: how many mutations of it there are.
 pub(crate) fn high_of(alloc: Global, n: u32, events: &[Happened]) -> Result<Vector, Memory>
     requires { (0 < n) × (n ≤ 1024) }
     ensures { IfOk result (λ high. high ≡ high_of n (state_after n events.now).log) }
 {
+    high_counts();
     let mut high = zero(alloc, n)?;
     for happened in events {
         count(&mut high, happened.event());

@@ -7,7 +7,7 @@ use Rattle.std.proofs.lemmas.Bool.Decides.{eqb_tells, leb_tells}
 use Rattle.std.proofs.lemmas.List.Elements.{filter-append}
 use Rattle.std.proofs.lemmas.List.FromFn.{get_or-map-range_with_len, length-map-range_with_len}
 use Rattle.std.proofs.lemmas.Grind.{same_number_lists, get_or-set_at}
-use Rattle.std.proofs.lemmas.List.{get_or-set_other, get_or_past}
+use Rattle.std.proofs.lemmas.List.{get_or-set_other, get_or_past, set_past}
 use Rattle.std.proofs.Math.ListN.{length-set}
 use Rattle.std.proofs.Math.Seq.{drop-nil, take-nil}
 use Rattle.std.proofs.Math.Nat.{sub-zero}
@@ -62,22 +62,23 @@ entry-high_of-le n log vb =
       | inr h ↦ omega (arith, get_or_past (high_of n log) vb 0 (omega (arith, length-high_of n log)))
     ]
 
-pub high_of-push : (n : ℕ) (log : List Mutation) (m : Mutation) → m.seqno ≡ count_of m.vb log + 1 → high_of n (log ++ m ∷ []) ≡ set (high_of n log) m.vb m.seqno
-high_of-push n log m e =
+-- one more mutation raises the number of its vBucket by one
+pub high_of-next : (n : ℕ) (log : List Mutation) (m : Mutation) → high_of n (log ++ m ∷ []) ≡ set (high_of n log) m.vb (get_or (high_of n log) m.vb 0 + 1)
+high_of-next n log m =
     let long = λ (l : List Mutation). length-high_of n l in
-    same_number_lists (high_of n (log ++ m ∷ [])) (set (high_of n log) m.vb m.seqno)
-    (omega (arith, long (log ++ m ∷ []), long log, length-set (high_of n log) m.vb m.seqno))
+    let next : ℕ = get_or (high_of n log) m.vb 0 + 1 in
+    same_number_lists (high_of n (log ++ m ∷ [])) (set (high_of n log) m.vb next)
+    (omega (arith, long (log ++ m ∷ []), long log, length-set (high_of n log) m.vb next))
     (λ k h. let within : k < n = omega (arith, long (log ++ m ∷ [])) in
     elim (eqb_tells m.vb k) [
       | inl w ↦ omega (
         arith,
         entry-high_of n (log ++ m ∷ []) k within,
+        entry-high_of n log k within,
+        ap (λ b. get_or (high_of n log) b 0) w.1,
         count_of-push k log m,
         cond-true {A = ℕ} (eqb m.vb k) 1 0 w.0,
-        w.1,
-        e,
-        ap (λ b. count_of b log) w.1,
-        get_or-set_at (high_of n log) m.vb k m.seqno 0 (sym w.1) (omega (arith, long log)),
+        get_or-set_at (high_of n log) m.vb k next 0 (sym w.1) (omega (arith, long log, w.1)),
       )
       | inr w ↦ let apart : k ≢ m.vb = λ e. w.1 (sym e) in omega (
         arith,
@@ -85,9 +86,30 @@ high_of-push n log m e =
         entry-high_of n log k within,
         count_of-push k log m,
         cond-false {A = ℕ} (eqb m.vb k) 1 0 w.0,
-        get_or-set_other (high_of n log) m.vb k m.seqno 0 apart,
+        get_or-set_other (high_of n log) m.vb k next 0 apart,
       )
     ])
+
+pub high_of-push : (n : ℕ) (log : List Mutation) (m : Mutation) → m.seqno ≡ count_of m.vb log + 1 → high_of n (log ++ m ∷ []) ≡ set (high_of n log) m.vb m.seqno
+high_of-push n log m e =
+    high_of-next n log m ∙ elim (cases_lt m.vb n) [
+      | inl h ↦ ap (set (high_of n log) m.vb) (ap (λ (k : ℕ). k + 1) (entry-high_of n log m.vb h) ∙ sym e)
+      | inr h ↦
+          let past : length (high_of n log) ≤ m.vb = omega (arith, length-high_of n log) in
+          set_past (high_of n log) m.vb (get_or (high_of n log) m.vb 0 + 1) past ∙ sym (set_past (high_of n log) m.vb m.seqno past)
+    ]
+
+-- no number is past the count of all mutations
+count_of-le : (vb : ℕ) (log : List Mutation) → count_of vb log ≤ length log
+count_of-le vb [] = omega arith
+count_of-le vb (m ∷ log) =
+    elim (eqb_tells m.vb vb) [
+      | inl w ↦ omega (arith, count_of-cons vb m log, count_of-le vb log, cond-true {A = ℕ} (eqb m.vb vb) 1 0 w.0)
+      | inr w ↦ omega (arith, count_of-cons vb m log, count_of-le vb log, cond-false {A = ℕ} (eqb m.vb vb) 1 0 w.0)
+    ]
+
+pub high_of-le : (n : ℕ) (log : List Mutation) (vb : ℕ) → get_or (high_of n log) vb 0 ≤ length log
+high_of-le n log vb = omega (arith, entry-high_of-le n log vb, count_of-le vb log)
 
 pub leb_from_lt : (a b : ℕ) → b < a → leb a b ≡ false
 leb_from_lt a b h = elim (leb_tells a b) [ inl w ↦ absurd (omega (arith, w.1)) | inr w ↦ w.0 ]

@@ -63,12 +63,16 @@ pub fn append_changes()
         → IsNext n log m → high_of n (log ++ m ∷ []) ≡ slice_set (high_of n log) m.vb m.seqno }
 {}
 
-/// Law of the newest numbers: there are n, and each is the count of its vBucket's mutations.
+/// Law of the newest numbers: there are n, each is the count of its vBucket's mutations, and one more mutation raises its own
+/// by one.
 pub fn high_counts()
     ensures size { (n : ℕ) (log : List Mutation) → length (high_of n log) ≡ n }
     ensures entries { (n : ℕ) (log : List Mutation) (vb : ℕ) → vb < n → entry (high_of n log) vb ≡ count_of vb log }
     ensures none { (n : ℕ) → high_of n [] ≡ zeros n }
     ensures grows { (n : ℕ) (log more : List Mutation) → IsCovered (high_of n log) (high_of n (log ++ more)) }
+    ensures next { (n : ℕ) (log : List Mutation) (m : Mutation)
+        → high_of n (log ++ m ∷ []) ≡ slice_set (high_of n log) m.vb (entry (high_of n log) m.vb + 1) }
+    ensures few { (n : ℕ) (log : List Mutation) (vb : ℕ) → entry (high_of n log) vb ≤ length log }
 {}
 
 /// Law of the last mutation: it is what leaves the document of its id.

@@ -1,4 +1,4 @@
-use Rattle.vb_store.proofs.Numbering.{length-high_of, entry-high_of, high_of-grows}
+use Rattle.vb_store.proofs.Numbering.{length-high_of, entry-high_of, high_of-next, high_of-le, high_of-grows}
 use Rattle.vb_store.proofs.Keeping.{high_of-nil}
 use Rattle.vb_store.proofs.laws.high_counts.Goals as goal
 
@@ -13,3 +13,9 @@ returns-clause-none c = high_of-nil
 
 pub returns-clause-grows : goal.returns-clause-grows
 returns-clause-grows c = high_of-grows
+
+pub returns-clause-next : goal.returns-clause-next
+returns-clause-next c = high_of-next
+
+pub returns-clause-few : goal.returns-clause-few
+returns-clause-few c = high_of-le
