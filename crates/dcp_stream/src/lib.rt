@@ -1,0 +1,13 @@
+//! Streams of mutations: pieces of a vBucket's mutations, and how far a stream has come.
+//!
+//! This crate knows no index: whoever takes a piece decides what becomes of it.
+#![tactic(auto)]
+
+pub mod laws;
+mod piece;
+mod position;
+#[cfg(test)]
+mod tests;
+
+pub use piece::Piece;
+pub use position::Position;
