@@ -1,7 +1,7 @@
 -- What contracts see of a value.
-use Rattle.std.specs.Prelude.{◌≡◌, ℕ, List, refl}
-use Rattle.std.proofs.Common.{ap, ◌∙◌}
-use Rattle.n1ql_value.specs.declared.datum.Datum.{Datum, out-Datum}
+use Rattle.std.specs.Prelude.{◌≡◌, ℕ, List, [], ◌∷◌, map, refl}
+use Rattle.std.proofs.Common.{sym, ap, ap₂, ◌∙◌}
+use Rattle.n1ql_value.specs.declared.datum.Datum.{Datum, out-Datum, roll-Datum, roll-out-Datum}
 use Rattle.n1ql_value.specs.declared.datum.Datum.TheOpen.{Datum-F}
 use Rattle.n1ql_value.specs.declared.datum.Datum.TheVariants as datum
 use Rattle.n1ql_value.specs.declared.text.Text.{Text as Bytes}
@@ -66,3 +66,19 @@ with_own_layer (Object ps) = refl
 
 pub value_of-datum_of : (v : Value) → value_of (datum_of v) ≡ v
 value_of-datum_of v = ap value_with (out_datum_of v) ∙ with_own_layer v
+
+pub values_of-data_of : (vs : List Value) → map value_of (map datum_of vs) ≡ vs
+values_of-data_of [] = refl
+values_of-data_of (v ∷ vs) = cc (value_of-datum_of v, values_of-data_of vs)
+
+with_own_top : (l : Datum-F Datum) → datum_of (value_with l) ≡ roll-Datum l
+with_own_top Datum-F.Missing = sym datum.rolls-Missing
+with_own_top Datum-F.Null = sym datum.rolls-Null
+with_own_top (Datum-F.Bool b) = sym (datum.rolls-Bool b)
+with_own_top (Datum-F.Int z) = sym (datum.rolls-Int z)
+with_own_top (Datum-F.Text t) = sym (datum.rolls-Text t)
+with_own_top (Datum-F.Array ds) = sym (datum.rolls-Array ds)
+with_own_top (Datum-F.Object ps) = sym (datum.rolls-Object ps)
+
+pub datum_of-value_of : (d : Datum) → datum_of (value_of d) ≡ d
+datum_of-value_of d = with_own_top (out-Datum d) ∙ roll-out-Datum d

@@ -13,3 +13,12 @@ pub mod RowLaws
 pub mod SortedLists
 pub mod Places
 pub mod Functions
+pub mod Kinds
+pub mod Tables
+pub mod Logic
+pub mod Comparison
+pub mod Arithmetic
+pub mod Operators
+pub mod Paths
+pub mod Constructors
+pub mod FunctionValues
