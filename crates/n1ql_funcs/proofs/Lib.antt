@@ -1,3 +1,4 @@
 pub mod Read
 pub mod Chosen
 pub mod Occurrences
+pub mod TruthLaws

@@ -1,4 +1,5 @@
-ghost use Rattle.std.specs.Prelude.{◌≡◌, ◌<◌, IfOk, length, map};
+ghost use Rattle.std.specs.Prelude.{◌≡◌, ◌<◌, ◌^◌, IfOk, length, map};
+ghost use Rattle.std.specs.Str.{chars};
 ghost use Rattle.n1ql_value.specs.declared.datum.Datum.TheVariants as datum;
 ghost use Rattle.n1ql_value.specs.declared.text.Text.{Text as Bytes};
 ghost use Rattle.n1ql_value.specs.declared.value.Value.{Value};
@@ -95,9 +96,17 @@ fn text_length(value: &Value) -> Value
 {
     match value {
         Value::Missing => Value::Missing,
-        Value::Text(text) => Value::Int(text.as_str().chars().count() as i64),
+        Value::Text(text) => Value::Int(code_points(text.as_str()) as i64),
         _ => Value::Null,
     }
+}
+
+/// How many code points a text has.
+fn code_points(text: &str) -> usize
+    ensures count { result ≡ length (chars text.now) }
+    ensures small { result < 2 ^ 63 }
+{
+    text.chars().count()
 }
 
 /// OBJECT_NAMES: the names, in byte order.
