@@ -1,6 +1,12 @@
 //! The laws of the tables, for whoever rests on them: each is the contract of a function that does nothing.
 
-ghost use Rattle.std.specs.Prelude.{◌≡◌, ◌≤◌, min, max, true, false, List, map};
+ghost use Rattle.std.specs.Prelude.{◌≡◌, ◌≤◌, min, max, true, false, List, ◌∷◌, Some};
+ghost use Rattle.std.specs.Option.{is_some};
+ghost use Rattle.std.specs.Cmp.{IsTotalOrder};
+ghost use Rattle.std.specs.declared.cmp.Ordering.{Ordering};
+ghost use Rattle.n1ql_value.specs.declared.datum.Datum.{Datum};
+ghost use Rattle.n1ql_value.specs.FunctionValues.{topmost};
+ghost use Rattle.n1ql_funcs.specs.Topmost.{IsTopmost};
 ghost use Rattle.n1ql_value.specs.declared.op.Op.{Op};
 ghost use Rattle.n1ql_value.specs.declared.op.Op.TheVariants as op;
 ghost use Rattle.n1ql_value.specs.declared.value.Value.{Value};
@@ -52,4 +58,10 @@ pub fn values_are_compared_by_the_order()
 /// BETWEEN is its two comparisons.
 pub fn between_is_two_comparisons()
     ensures { (v a b : Value) → between_of v a b ≡ and_of (comparison_of op.Ge v a) (comparison_of op.Le v b) }
+{}
+
+/// What GREATEST and LEAST keep of values is one of them, and none stands above it by their order; only of none is there none.
+pub fn the_topmost_is_above_all()
+    ensures there { (R : Datum → Datum → Ordering) (d : Datum) (ds : List Datum) → is_some (topmost R (d ∷ ds)) ≡ true }
+    ensures above { (R : Datum → Datum → Ordering) (ds : List Datum) (top : Datum) → IsTotalOrder R → topmost R ds ≡ Some top → IsTopmost R ds top }
 {}

@@ -1,6 +1,6 @@
 use crate::{
-    Truth, and2, between, call, field, is_in, is_missing, is_null, is_true, is_valued, negate,
-    not1, operate, or2, place,
+    Truth, and2, between, calculate, call, compare, field, is_in, is_missing, is_null, is_true,
+    is_valued, negate, not1, operate, or2, place,
 };
 use n1ql_value::{Fun, Memory, Op, Pairs, Text, Vals, Value, collate};
 use std::alloc::Global;
@@ -142,7 +142,39 @@ const CALLS: [(Fun, &[Plain], Plain); 57] = [
 ];
 
 /// Operators with their operands and their values.
-const OPERATIONS: [(Op, Plain, Plain, Plain); 41] = [
+const OPERATIONS: [(Op, Plain, Plain, Plain); 73] = [
+    (Op::And, NO, NO, NO),
+    (Op::And, NO, Missing, NO),
+    (Op::And, NO, Null, NO),
+    (Op::And, NO, YES, NO),
+    (Op::And, Missing, NO, NO),
+    (Op::And, Missing, Missing, Missing),
+    (Op::And, Missing, Null, Missing),
+    (Op::And, Missing, YES, Missing),
+    (Op::And, Null, NO, NO),
+    (Op::And, Null, Missing, Missing),
+    (Op::And, Null, Null, Null),
+    (Op::And, Null, YES, Null),
+    (Op::And, YES, NO, NO),
+    (Op::And, YES, Missing, Missing),
+    (Op::And, YES, Null, Null),
+    (Op::And, YES, YES, YES),
+    (Op::Or, NO, NO, NO),
+    (Op::Or, NO, Missing, Missing),
+    (Op::Or, NO, Null, Null),
+    (Op::Or, NO, YES, YES),
+    (Op::Or, Missing, NO, Missing),
+    (Op::Or, Missing, Missing, Missing),
+    (Op::Or, Missing, Null, Null),
+    (Op::Or, Missing, YES, YES),
+    (Op::Or, Null, NO, Null),
+    (Op::Or, Null, Missing, Null),
+    (Op::Or, Null, Null, Null),
+    (Op::Or, Null, YES, YES),
+    (Op::Or, YES, NO, YES),
+    (Op::Or, YES, Missing, YES),
+    (Op::Or, YES, Null, YES),
+    (Op::Or, YES, YES, YES),
     (Op::And, Int(1), YES, Null),
     (Op::And, Plain::Text("a"), Missing, Missing),
     (Op::Or, Int(0), NO, Null),
@@ -232,111 +264,123 @@ fn operators_by_clause(rt: HostRuntime) -> Result<(), Memory> {
     Ok(())
 }
 
-// FALSE, MISSING, NULL, TRUE against each other, by the reference's table.
-#[test]
-fn logic_by_table(rt: HostRuntime) {
-    use Truth::{Missing, No, Null, Yes};
-    let truths = [No, Missing, Null, Yes];
-    let both = [
-        [No, No, No, No],
-        [No, Missing, Missing, Missing],
-        [No, Missing, Null, Null],
-        [No, Missing, Null, Yes],
-    ];
-    let one = [
-        [No, Missing, Null, Yes],
-        [Missing, Missing, Null, Yes],
-        [Null, Null, Null, Yes],
-        [Yes, Yes, Yes, Yes],
-    ];
-    for (i, a) in truths.iter().enumerate() {
-        for (j, b) in truths.iter().enumerate() {
-            assert_eq!(rt; and2(&a.value(), &b.value()), both[i][j], "{a:?} AND {b:?}");
-            assert_eq!(rt; or2(&a.value(), &b.value()), one[i][j], "{a:?} OR {b:?}");
-        }
-    }
-    for (a, want) in [(No, Yes), (Missing, Missing), (Null, Null), (Yes, No)] {
-        assert_eq!(rt; not1(&a.value()), want);
-    }
-    assert_eq!(rt; not1(&Value::Int(1)), Null);
-}
+/// A value, the elements or a value in their place, and whether it is IN them.
+const MEMBERSHIPS: [(Plain, Plain, Truth); 6] = [
+    (Missing, Null, Truth::Missing),
+    (Null, Missing, Truth::Missing),
+    (Null, Ints(&[1]), Truth::Null),
+    (Int(10), Int(10), Truth::Null),
+    (Int(3), Ints(&[1, 2, 3]), Truth::Yes),
+    (Int(4), Ints(&[1, 2, 3]), Truth::No),
+];
 
-// BETWEEN, IN, the unary minus, the tests of IS, fields and places.
+/// A value, two bounds, and whether it lies BETWEEN them.
+const BOUNDS: [(Plain, Plain, Plain, Truth); 5] = [
+    (Int(2), Int(2), Int(2), Truth::Yes),
+    (Int(3), Int(1), Int(2), Truth::No),
+    (Int(1), Int(2), Null, Truth::No),
+    (Int(3), Int(2), Null, Truth::Null),
+    (Missing, Int(2), Int(2), Truth::Missing),
+];
+
+/// A value, a name or a place in it, and what stands there.
+const PATHS: [(Plain, Plain, Plain); 14] = [
+    (Ints(&[10, 20, 30]), Int(0), Int(10)),
+    (Ints(&[10, 20, 30]), Int(2), Int(30)),
+    (Ints(&[10, 20, 30]), Int(3), Missing),
+    (Ints(&[10, 20, 30]), Int(-1), Int(30)),
+    (Ints(&[10, 20, 30]), Int(-3), Int(10)),
+    (Ints(&[10, 20, 30]), Int(-4), Missing),
+    (Ints(&[10, 20, 30]), Int(i64::MIN), Missing),
+    (Ints(&[10, 20, 30]), Int(i64::MAX), Missing),
+    (Ints(&[10, 20, 30]), Null, Missing),
+    (Int(1), Int(0), Missing),
+    (Named(&[("a", 1), ("b", 2)]), Plain::Text("b"), Int(2)),
+    (Named(&[("a", 1)]), Plain::Text("b"), Missing),
+    (Ints(&[1]), Plain::Text("a"), Missing),
+    (Missing, Plain::Text("a"), Missing),
+];
+
+/// A value, its unary minus and its NOT.
+const ALONE: [(Plain, Plain, Truth); 8] = [
+    (Missing, Missing, Truth::Missing),
+    (Null, Null, Truth::Null),
+    (NO, Null, Truth::Yes),
+    (YES, Null, Truth::No),
+    (Int(5), Int(-5), Truth::Null),
+    (Int(i64::MIN), Null, Truth::Null),
+    (Int(i64::MAX), Int(-9223372036854775807), Truth::Null),
+    (Plain::Text("a"), Null, Truth::Null),
+];
+
 #[test]
-fn the_other_forms(rt: HostRuntime) -> Result<(), Memory> {
+fn values_among_others(rt: HostRuntime) -> Result<(), Memory> {
     let alloc = rt.alloc();
-    let list = ints(alloc, &[10, 20, 30])?;
-    let cases = [
-        (is_in(&Value::Missing, &Value::Null), Truth::Missing),
-        (is_in(&Value::Null, &Value::Missing), Truth::Missing),
-        (is_in(&Value::Null, &list), Truth::Null),
-        (is_in(&Value::Int(10), &Value::Int(10)), Truth::Null),
-        (is_in(&Value::Int(30), &list), Truth::Yes),
-        (is_in(&Value::Int(3), &list), Truth::No),
-        (
-            between(&Value::Int(2), &Value::Int(2), &Value::Int(2)),
-            Truth::Yes,
-        ),
-        (
-            between(&Value::Int(1), &Value::Int(2), &Value::Null),
-            Truth::No,
-        ),
-        (
-            between(&Value::Int(3), &Value::Int(2), &Value::Null),
-            Truth::Null,
-        ),
-        (
-            between(&Value::Missing, &Value::Int(2), &Value::Int(2)),
-            Truth::Missing,
-        ),
-    ];
-    for (i, (got, want)) in cases.iter().enumerate() {
-        assert_eq!(rt; *got, *want, "case {i}");
+    for (i, (value, list, want)) in MEMBERSHIPS.iter().enumerate() {
+        let got = is_in(&made(alloc, value)?, &made(alloc, list)?);
+        assert_eq!(rt; got, *want, "case {i}");
     }
-    for (at, want) in [(0, 10), (2, 30), (-1, 30), (-3, 10)] {
-        assert!(rt;
-            matches!(place(&list, &Value::Int(at)), Some(Value::Int(n)) if *n == want),
-            "at {at}"
-        );
-    }
-    for at in [3, -4, i64::MIN, i64::MAX] {
-        assert!(rt; place(&list, &Value::Int(at)).is_none(), "at {at}");
-    }
-    assert!(rt; place(&list, &Value::Null).is_none());
-    assert!(rt; place(&Value::Int(1), &Value::Int(0)).is_none());
-    let object = named(alloc, &[("a", 1)])?;
-    assert!(rt; matches!(field(&object, "a"), Some(Value::Int(1))));
-    assert!(rt; field(&object, "b").is_none());
-    assert!(rt; field(&list, "a").is_none());
-    assert!(rt; matches!(negate(&Value::Int(i64::MIN)), Value::Null));
-    assert!(rt;
-        matches!(
-            negate(&Value::Int(i64::MAX)),
-            Value::Int(-9223372036854775807)
-        )
-    );
-    assert!(rt; matches!(negate(&Value::Bool(true)), Value::Null));
-    assert!(rt; matches!(negate(&Value::Missing), Value::Missing));
     Ok(())
 }
 
-// Which of the four tests of a value hold.
 #[test]
-fn kinds_of_values(rt: HostRuntime) {
-    let cases = [
-        (Value::Missing, [true, false, false, false]),
-        (Value::Null, [false, true, false, false]),
-        (Value::Bool(true), [false, false, true, true]),
-        (Value::Bool(false), [false, false, true, false]),
-        (Value::Int(0), [false, false, true, false]),
-    ];
-    for (value, want) in &cases {
-        let got = [
-            is_missing(value),
-            is_null(value),
-            is_valued(value),
-            is_true(value),
-        ];
-        assert!(rt; got == *want);
+fn values_between_bounds(rt: HostRuntime) -> Result<(), Memory> {
+    let alloc = rt.alloc();
+    for (i, (value, low, high, want)) in BOUNDS.iter().enumerate() {
+        let got = between(
+            &made(alloc, value)?,
+            &made(alloc, low)?,
+            &made(alloc, high)?,
+        );
+        assert_eq!(rt; got, *want, "case {i}");
     }
+    Ok(())
+}
+
+// What stands at a name or a place, MISSING where nothing does.
+fn reached(alloc: Global, value: &Value, at: &Plain) -> Result<Value, Memory> {
+    let found = match at {
+        Plain::Text(name) => field(value, name),
+        at => place(value, &made(alloc, at)?),
+    };
+    match found {
+        Some(found) => found.copy(alloc),
+        None => Ok(Value::Missing),
+    }
+}
+
+#[test]
+fn fields_and_places(rt: HostRuntime) -> Result<(), Memory> {
+    let alloc = rt.alloc();
+    for (i, (value, at, want)) in PATHS.iter().enumerate() {
+        let got = reached(alloc, &made(alloc, value)?, at)?;
+        assert!(rt; collate(&got, &made(alloc, want)?).is_eq(), "case {i}");
+    }
+    Ok(())
+}
+
+#[test]
+fn operators_of_one_value(rt: HostRuntime) -> Result<(), Memory> {
+    let alloc = rt.alloc();
+    for (i, (value, minus, not)) in ALONE.iter().enumerate() {
+        let value = made(alloc, value)?;
+        assert!(rt;
+            collate(&negate(&value), &made(alloc, minus)?).is_eq(),
+            "case {i}"
+        );
+        assert_eq!(rt; not1(&value), *not, "case {i}");
+    }
+    Ok(())
+}
+
+// The calls that `operate` makes, and the tests of a value.
+#[test]
+fn calls_by_name(rt: HostRuntime) {
+    let one = Value::Int(1);
+    let yes = Value::Bool(true);
+    assert_eq!(rt; and2(&yes, &one), Truth::Null);
+    assert_eq!(rt; or2(&yes, &one), Truth::Yes);
+    assert_eq!(rt; compare(Op::Lt, &yes, &one), Truth::Yes);
+    assert!(rt; matches!(calculate(Op::Add, &one, &one), Value::Int(2)));
+    assert!(rt; is_true(&yes) && is_valued(&yes) && !is_null(&yes) && !is_missing(&yes));
 }
