@@ -1,0 +1,9 @@
+use Rattle.std.proofs.Common.{◌≡◌, None, drop}
+use Rattle.std.specs.Option.{option_copied, option_map}
+use Rattle.n1ql_value.specs.Datum.{datum_of}
+use Rattle.n1ql_value.specs.Collation.{value_cmp}
+use Rattle.n1ql_funcs.proofs.Chosen.{onward}
+use Rattle.n1ql_funcs.proofs.choice.greatest.Given as goal
+
+abbrev pub invariant-loop-value : goal.invariant-loop-value
+invariant-loop-value l = onward value_cmp (option_map datum_of (option_copied l.found)) (drop l.value-index l.values) ≡ onward value_cmp None l.values

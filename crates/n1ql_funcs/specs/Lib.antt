@@ -1,0 +1,4 @@
+pub mod Truths
+pub mod Choice
+pub mod TruthOrder
+pub mod Topmost

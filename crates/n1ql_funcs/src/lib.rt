@@ -1,0 +1,31 @@
+//! The operators and functions of N1QL on values: four-valued logic, comparisons, whole numbers of 64 bits, paths and the
+//! functions of the language. An expression is not known here.
+#![tactic(auto)]
+
+mod arithmetic;
+mod calls;
+mod choice;
+mod comparison;
+mod kinds;
+mod laws;
+mod logic;
+mod operation;
+mod paths;
+#[cfg(test)]
+mod tests;
+mod texts;
+mod truth;
+
+pub use arithmetic::{calculate, negate};
+pub use calls::call;
+pub use comparison::{between, compare, is_in};
+pub use kinds::{is_missing, is_null, is_true, is_valued};
+pub use laws::{
+    and_is_a_meet, and_is_the_least, between_is_two_comparisons, not_exchanges_the_ends,
+    or_is_a_join, or_is_the_greatest, the_topmost_is_above_all, values_are_compared_by_the_order,
+};
+pub use logic::{and2, not1, or2};
+pub use operation::operate;
+pub use paths::{field, place};
+pub use texts::join;
+pub use truth::Truth;
