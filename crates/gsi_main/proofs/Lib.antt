@@ -1,5 +1,2 @@
 pub mod Transfers
-pub mod LineLemmas
 pub mod WordLemmas
-pub mod FormLemmas
-pub mod ScriptLemmas

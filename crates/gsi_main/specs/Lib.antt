@@ -4,8 +4,5 @@ pub mod MemSink
 pub mod Reading
 pub mod Writing
 pub mod Status
-pub mod Lines
-pub mod Forms
-pub mod Scripts
 pub mod Answer
 pub mod Replay

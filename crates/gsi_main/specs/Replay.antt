@@ -3,7 +3,7 @@ use Rattle.std.specs.Prelude.{◌≡◌, ℕ, List, [], ◌∷◌, codes, take, 
 use Rattle.std.specs.Io.KnownBytes.{Appends, IsAtEnd}
 use Rattle.gsi_main.specs.declared.status.Status.{Status}
 use Rattle.gsi_main.specs.declared.status.Status.TheVariants.{Done, Words, Script, ReadFault, WriteFault, Memory, TooLarge}
-use Rattle.gsi_main.specs.Answer.{Answer, report, bad_line, too_large, for_input}
+use Rattle.gsi_main.specs.Answer.{Answer, report, bad_line, past_limit, for_input}
 
 -- the one word `replay`
 abbrev pub IsReplay : List (List ℕ) → Type 0
@@ -21,7 +21,7 @@ IsFor (Script line kind) answer = answer ≡ bad_line line kind
 IsFor ReadFault answer = ⊤
 IsFor WriteFault answer = IsReport answer
 IsFor Memory answer = ⊤
-IsFor (TooLarge what limit) answer = answer ≡ too_large what limit
+IsFor (TooLarge what limit) answer = answer ≡ past_limit what limit
 
 -- a source that tells its bytes is at its end, those bytes are a script, and the report of its replay was appended
 abbrev pub Replayed : Option (List ℕ) → Option (List ℕ) → Option (List ℕ) → Option (List ℕ) → Type 0

@@ -1,20 +1,14 @@
-ghost use Rattle.std.specs.Prelude.{◌≤◌, length};
 ghost use Rattle.gsi_main.specs.Answer.{Gives, answer_of};
 
 use crate::history::replay_report;
-use crate::reading::INPUT_LIMIT;
-use crate::refusal::Refusal;
-use crate::script::read_script;
+use script_text::{ScriptFault, read_script};
 use std::alloc::Global;
 
 /// The report of the replay of the script that the input is.
 #[tactic(auto, unfolding(crate::specs::Answer::answer_of))]
-pub(crate) fn answer_for(alloc: Global, input: &[u8]) -> Result<Vec<u8>, Refusal>
-    requires { length input.now ≤ INPUT_LIMIT }
+pub(crate) fn answer_for(alloc: Global, input: &[u8]) -> Result<Vec<u8>, ScriptFault>
     ensures { Gives (answer_of input.now) result }
 {
-    match read_script(alloc, input) {
-        Ok(script) => Ok(replay_report(alloc, script)?),
-        Err(refusal) => Err(refusal),
-    }
+    let script = read_script(alloc, input)?;
+    Ok(replay_report(alloc, script)?)
 }

@@ -2,19 +2,12 @@
 #![tactic(auto)]
 
 mod answer;
-mod command;
 mod giving;
-mod header;
 mod history;
-mod kind;
-mod lines;
 mod mem_sink;
 mod mem_source;
-mod members;
 mod reading;
-mod refusal;
 mod replay;
-mod script;
 mod sink;
 mod source;
 mod status;
@@ -24,14 +17,13 @@ mod sure_sink;
 mod sure_source;
 #[cfg(test)]
 mod tests;
-mod what;
 mod writing;
 
-pub use kind::Kind;
 pub use mem_sink::MemSink;
 pub use mem_source::MemSource;
 pub use reading::INPUT_LIMIT;
 pub use replay::gsi_replay;
+pub use scan_history::{Kind, What};
 pub use sink::Sink;
 pub use source::Source;
 pub use status::Status;
@@ -39,4 +31,3 @@ pub use std_sink::StdSink;
 pub use std_source::StdSource;
 pub use sure_sink::SureSink;
 pub use sure_source::SureSource;
-pub use what::What;

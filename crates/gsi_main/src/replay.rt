@@ -6,13 +6,13 @@ ghost use Rattle.gsi_main.specs.Replay.{IsReplay, IsFor, Replayed, PartlyReplaye
 
 use crate::answer::answer_for;
 use crate::reading::{INPUT_LIMIT, Unread, read_input};
-use crate::refusal::Refusal;
 use crate::sink::Sink;
 use crate::source::Source;
 use crate::status::Status;
-use crate::what::What;
 use crate::writing::write_report;
 use n1ql_value::{Failed, Text};
+use scan_history::What;
+use script_text::ScriptFault;
 use std::alloc::Global;
 
 /// Reads a script from the source to its end, replays it, and writes the report of that to the sink. The words are
@@ -56,9 +56,9 @@ pub fn gsi_replay<S: Source, K: Sink>(
     };
     let report = match answer_for(alloc, input.as_slice()) {
         Ok(report) => report,
-        Err(Refusal::BadLine { line, kind }) => return Status::Script { line, kind },
-        Err(Refusal::TooLarge { what, limit }) => return Status::TooLarge { what, limit },
-        Err(Refusal::Memory) => return Status::Memory,
+        Err(ScriptFault::Line { line, kind }) => return Status::Script { line, kind },
+        Err(ScriptFault::TooLarge { what, limit }) => return Status::TooLarge { what, limit },
+        Err(ScriptFault::Memory) => return Status::Memory,
     };
     match write_report(report.as_slice(), sink) {
         Ok(()) => Status::Done,

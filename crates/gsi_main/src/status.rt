@@ -1,7 +1,6 @@
 ghost use Rattle.std.specs.Prelude.{◌≡◌};
 
-use crate::kind::Kind;
-use crate::what::What;
+use scan_history::{Kind, What};
 
 /// How a top call ends.
 #[derive(Clone, Copy, Debug, PartialEq, Eq)]
@@ -18,7 +17,7 @@ pub enum Status {
     WriteFault,
     /// Memory ran out. Nothing was written.
     Memory,
-    /// The input passed a limit. Nothing was written.
+    /// The input or the script passed a limit. Nothing was written.
     TooLarge { what: What, limit: u64 },
 }
 

@@ -5,6 +5,7 @@ use n1ql_value::Text;
 use std::alloc::Global;
 use std::io;
 use std::io::{Read, Write};
+use std::process::Abort;
 use std::test::Fail;
 
 const HEADER: &str = "{\"gsi\":1,\"vbuckets\":1,\"clients\":1}";
@@ -32,37 +33,60 @@ fn answered(
     Ok((status, Vec::from_slice(alloc, sink.bytes())?))
 }
 
+/// What a script is answered: its report, or the status alone.
+fn check(
+    rt: &(impl AllocGlobal + Abort),
+    input: &str,
+    status: Status,
+    report: &str,
+) -> Result<(), Fail> {
+    let (found, held) = answered(rt.alloc(), input, &[], &[])?;
+    assert!(rt; found == status, "{input}");
+    assert!(rt; held.as_slice() == report.as_bytes(), "{input}");
+    Ok(())
+}
+
+fn bad(line: u64, kind: Kind) -> Status {
+    Status::Script { line, kind }
+}
+
 #[test]
 fn scripts(rt: HostRuntime) -> Result<(), Fail> {
-    let bad = |line| Status::Script {
-        line,
-        kind: Kind::Unbuilt,
-    };
     for (before, header, after, status) in [
         ("", HEADER, "", Status::Done),
         ("\n \t\r\n", HEADER, "\r\n \n\n", Status::Done),
-        ("", "", "", bad(1)),
-        ("\n \n", "", "", bad(1)),
-        ("\n", "{", "", bad(2)),
-        ("", "{\"gsi\":1,\"vbuckets\":1,\"clients\":2}", "", bad(1)),
+        ("", "", "", bad(1, Kind::Shape)),
+        ("\n \n", "", "", bad(1, Kind::Shape)),
+        ("\n", "{", "", bad(2, Kind::Syntax)),
+        ("", HEADER, "\n\n\n{}\n{", bad(4, Kind::Shape)),
+        ("", "{\"gsi\":2}", "", bad(1, Kind::Version)),
         (
             "",
-            "{\"gsi\":1,\"vbuckets\":1,\"clients\":1,\"batch\":1}",
+            "{\"gsi\":1,\"vbuckets\":1025,\"clients\":1}",
             "",
-            bad(1),
+            bad(1, Kind::Range),
         ),
-        ("", HEADER, "\n\n\n{}\n{}", bad(4)),
+        (
+            "",
+            "{\"gsi\":1,\"vbuckets\":1,\"clients\":2}",
+            "",
+            bad(1, Kind::Unbuilt),
+        ),
+        (
+            "",
+            "{\"gsi\":1,\"keyspace\":\"ks\",\"vbuckets\":1,\"clients\":1,\"workers\":0,\"batch\":1}",
+            "",
+            Status::Done,
+        ),
     ] {
         let input = format!(in rt.alloc(); "{before}{header}{after}")?;
         let report = if status == Status::Done { END } else { "" };
-        let (found, held) = answered(rt.alloc(), input.as_str(), &[], &[])?;
-        assert!(rt; found == status, "{input}");
-        assert!(rt; held.as_slice() == report.as_bytes(), "{input}");
+        check(&rt, input.as_str(), status, report)?;
     }
     Ok(())
 }
 
-const UPSERT: &str = "{\"c\":0,\"do\":\"upsert\",\"id\":\"a\",\"doc\":{\"x\":-1,\"y\":2}}";
+const UPSERT: &str = "{\"c\":0,\"do\":\"upsert\",\"id\":\"a\",\"doc\":{\"x\":-1,\"y\":[null]}}";
 
 const DDL: &str = "{\"c\":0,\"do\":\"ddl\",\"q\":\"CREATE INDEX ix ON ks(x)\"}";
 
@@ -71,47 +95,36 @@ const SCAN: &str = "{\"index\":\"ix\",\"do\":\"scan\",\"c\":0}";
 #[test]
 fn commands(rt: HostRuntime) -> Result<(), Fail> {
     let delete = "{\"c\":0,\"do\":\"delete\",\"id\":\"\\u00e9\"}";
-    for (second, third, bad_line) in [
-        (UPSERT, delete, 0u64),
-        (DDL, SCAN, 0),
-        (SCAN, DDL, 2),
-        (DDL, DDL, 3),
-        (UPSERT, "{", 3),
-        (UPSERT, "[]", 3),
-        ("{\"c\":1,\"do\":\"delete\",\"id\":\"a\"}", "{}", 2),
-        ("{\"c\":0,\"do\":\"delete\",\"id\":\"\"}", "{}", 2),
-        ("{\"c\":0,\"do\":\"delete\",\"id\":\"a\",\"x\":1}", "{}", 2),
+    for (second, third, status) in [
+        (UPSERT, delete, Status::Done),
+        (DDL, SCAN, Status::Done),
+        (SCAN, DDL, bad(2, Kind::Unbuilt)),
+        (DDL, DDL, bad(3, Kind::Unbuilt)),
+        (UPSERT, "{\"c\":0,\"do\":\"up", bad(3, Kind::Syntax)),
+        (UPSERT, "[]", bad(3, Kind::Shape)),
         (
-            "{\"c\":0,\"do\":\"upsert\",\"id\":\"a\",\"doc\":[1]}",
+            "{\"c\":0,\"do\":\"upsert\",\"id\":\"b\",\"doc\":1.5}",
             "{}",
-            2,
+            bad(2, Kind::Number),
         ),
         (
-            "{\"c\":0,\"do\":\"upsert\",\"id\":\"a\",\"doc\":{\"x\":1.5}}",
+            "{\"c\":1,\"do\":\"delete\",\"id\":\"a\"}",
             "{}",
-            2,
+            bad(2, Kind::Range),
         ),
         (
-            "{\"c\":0,\"do\":\"upsert\",\"id\":\"a\",\"doc\":{\"x\":\"1\"}}",
+            "{\"c\":0,\"do\":\"delete\",\"id\":\"a\",\"x\":1}",
             "{}",
-            2,
+            bad(2, Kind::Shape),
         ),
         (
-            "{\"c\":0,\"do\":\"ddl\",\"q\":\"CREATE INDEX ix ON ks(xy)\"}",
+            "{\"c\":0,\"do\":\"query\",\"q\":\"\"}",
             "{}",
-            2,
+            bad(2, Kind::Unbuilt),
         ),
     ] {
         let input = format!(in rt.alloc(); "{HEADER}\n{second}\n{third}")?;
         let (found, _held) = answered(rt.alloc(), input.as_str(), &[], &[])?;
-        let status = if bad_line == 0 {
-            Status::Done
-        } else {
-            Status::Script {
-                line: bad_line,
-                kind: Kind::Unbuilt,
-            }
-        };
         assert!(rt; found == status, "{input}");
     }
     Ok(())
@@ -144,22 +157,59 @@ fn padded(alloc: Global, len: usize) -> Result<Vec<u8>, Fail> {
     Ok(bytes)
 }
 
+/// A script of a header, a line, and many times the same line.
+fn repeated(
+    alloc: Global,
+    header: &str,
+    line: &str,
+    again: &str,
+    times: usize,
+) -> Result<Vec<u8>, Fail> {
+    let mut bytes = Vec::from_slice(alloc, header.as_bytes())?;
+    bytes.push(b'\n')?;
+    bytes.extend_from_slice(line.as_bytes())?;
+    bytes.push(b'\n')?;
+    for _ in 0..times {
+        bytes.extend_from_slice(again.as_bytes())?;
+        bytes.push(b'\n')?;
+    }
+    Ok(bytes)
+}
+
+/// How the replay of these bytes ends.
+fn ended(alloc: Global, bytes: Vec<u8>) -> Result<Status, Fail> {
+    let words = words_of(alloc, "replay")?;
+    let mut source = SureSource::new(alloc, bytes);
+    Ok(gsi_replay(alloc, words.as_slice(), &mut source, &mut SureSink::new()))
+}
+
+fn too_large(what: What, limit: u64) -> Status {
+    Status::TooLarge { what, limit }
+}
+
 #[test]
 fn limits(rt: HostRuntime) -> Result<(), Fail> {
-    let words = words_of(rt.alloc(), "replay")?;
-    let limit = Status::TooLarge {
-        what: What::Input,
-        limit: 4_194_304,
-    };
-    for (len, status) in [(4_194_304, Status::Done), (4_194_305, limit)] {
-        let mut source = SureSource::new(rt.alloc(), padded(rt.alloc(), len)?);
-        let found = gsi_replay(
-            rt.alloc(),
-            words.as_slice(),
-            &mut source,
-            &mut SureSink::new(),
-        );
+    let input = too_large(What::Input, 4_194_304);
+    for (len, status) in [(4_194_304, Status::Done), (4_194_305, input)] {
+        let found = ended(rt.alloc(), padded(rt.alloc(), len)?)?;
         assert!(rt; found == status, "{len}");
+    }
+    Ok(())
+}
+
+#[test]
+fn limits_of_lines(rt: HostRuntime) -> Result<(), Fail> {
+    let wide = "{\"gsi\":1,\"vbuckets\":1024,\"clients\":1}";
+    let delete = "{\"c\":0,\"do\":\"delete\",\"id\":\"a\"}";
+    for (header, line, again, times, status) in [
+        (HEADER, "", delete, 65_537, too_large(What::Lines, 65_536)),
+        (wide, "", delete, 4_097, too_large(What::Product, 4_194_304)),
+        (wide, "", delete, 4_096, Status::Done),
+        (HEADER, DDL, SCAN, 1_025, too_large(What::Scans, 1_024)),
+    ] {
+        let bytes = repeated(rt.alloc(), header, line, again, times)?;
+        let found = ended(rt.alloc(), bytes)?;
+        assert!(rt; found == status, "{header} {times} {again}");
     }
     Ok(())
 }
@@ -242,8 +292,55 @@ fn over_what_fails(rt: HostRuntime) -> Result<(), Fail> {
     Ok(())
 }
 
+const FOUR_DOCUMENTS: &str =
+    "{\"gsi\":1,\"vbuckets\":1,\"clients\":1}\n{\"c\":0,\"do\":\"upsert\",\"id\":\"b\",\"doc\":{\"x\":1}}\n{\"c\":0,\"do\":\"upsert\",\"id\":\"a\",\"doc\":{\"x\":1}}\n{\"c\":0,\"do\":\"upsert\",\"id\":\"c\",\"doc\":{\"x\":2}}\n{\"c\":0,\"do\":\"upsert\",\"id\":\"d\",\"doc\":{\"x\":3}}\n{\"c\":0,\"do\":\"ddl\",\"q\":\"CREATE INDEX ix ON ks(x)\"}\n{\"c\":0,\"do\":\"scan\",\"index\":\"ix\",\"spans\":";
+
+const BEFORE_THE_ROWS: &str =
+    "{\"c\":0,\"e\":\"mutate\",\"k\":0,\"seq\":1,\"vb\":0}\n{\"c\":0,\"e\":\"mutate\",\"k\":1,\"seq\":2,\"vb\":0}\n{\"c\":0,\"e\":\"mutate\",\"k\":2,\"seq\":3,\"vb\":0}\n{\"c\":0,\"e\":\"mutate\",\"k\":3,\"seq\":4,\"vb\":0}\n{\"c\":0,\"e\":\"define\",\"i\":0,\"k\":4,\"state\":\"building\"}\n{\"e\":\"publish\",\"i\":0,\"v\":{\"0\":4}}\n{\"c\":0,\"e\":\"online\",\"indexes\":[0],\"k\":4}\n{\"c\":0,\"d\":{},\"e\":\"start\",\"i\":0,\"k\":5}\n{\"c\":0,\"e\":\"answer\",\"k\":5,\"rows\":";
+
+const AFTER_THE_ROWS: &str =
+    ",\"v\":{\"0\":4}}\n{\"e\":\"end\",\"events\":9,\"high\":{\"0\":4},\"indexes\":[{\"i\":0,\"name\":\"ix\",\"rows\":4,\"state\":\"online\",\"v\":{\"0\":4}}]}\n";
+
+/// Four documents, two of them with one key, under several spans.
+#[test]
+fn spans(rt: HostRuntime) -> Result<(), Fail> {
+    for (spans, rows) in [
+        (
+            "[[]]",
+            "[{\"id\":\"a\",\"keys\":[[1]]},{\"id\":\"b\",\"keys\":[[1]]},{\"id\":\"c\",\"keys\":[[2]]},{\"id\":\"d\",\"keys\":[[3]]}]",
+        ),
+        (
+            "[[{\"low\":1,\"high\":3,\"incl\":1}]]",
+            "[{\"id\":\"a\",\"keys\":[[1]]},{\"id\":\"b\",\"keys\":[[1]]},{\"id\":\"c\",\"keys\":[[2]]}]",
+        ),
+        (
+            "[[{\"low\":1,\"high\":3,\"incl\":2}]]",
+            "[{\"id\":\"c\",\"keys\":[[2]]},{\"id\":\"d\",\"keys\":[[3]]}]",
+        ),
+        (
+            "[[{\"low\":1,\"high\":3,\"incl\":0}]]",
+            "[{\"id\":\"c\",\"keys\":[[2]]}]",
+        ),
+        (
+            "[[{\"low\":1,\"high\":3}]]",
+            "[{\"id\":\"a\",\"keys\":[[1]]},{\"id\":\"b\",\"keys\":[[1]]},{\"id\":\"c\",\"keys\":[[2]]},{\"id\":\"d\",\"keys\":[[3]]}]",
+        ),
+        (
+            "[[{\"low\":3}],[{\"high\":1}]]",
+            "[{\"id\":\"a\",\"keys\":[[1]]},{\"id\":\"b\",\"keys\":[[1]]},{\"id\":\"d\",\"keys\":[[3]]}]",
+        ),
+        ("[]", "[]"),
+        ("[[{\"low\":null,\"high\":1,\"incl\":0}]]", "[]"),
+    ] {
+        let input = format!(in rt.alloc(); "{FOUR_DOCUMENTS}{spans}}}\n")?;
+        let report = format!(in rt.alloc(); "{BEFORE_THE_ROWS}{rows}{AFTER_THE_ROWS}")?;
+        check(&rt, input.as_str(), Status::Done, report.as_str())?;
+    }
+    Ok(())
+}
+
 /// A document that is indexed and scanned; and the same where it is deleted before the scan, which still answers from the
-/// newest publication.
+/// newest publication; and four documents, each in a vBucket of its own.
 #[test]
 fn reports(rt: HostRuntime) -> Result<(), Fail> {
     for (input, report) in [
@@ -255,10 +352,12 @@ fn reports(rt: HostRuntime) -> Result<(), Fail> {
             "{\"gsi\":1,\"vbuckets\":1,\"clients\":1}\n{\"c\":0,\"do\":\"upsert\",\"id\":\"a\",\"doc\":{\"x\":5}}\n{\"c\":0,\"do\":\"ddl\",\"q\":\"CREATE INDEX ix ON ks(x)\"}\n{\"c\":0,\"do\":\"delete\",\"id\":\"a\"}\n{\"c\":0,\"do\":\"scan\",\"index\":\"ix\"}\n",
             "{\"c\":0,\"e\":\"mutate\",\"k\":0,\"seq\":1,\"vb\":0}\n{\"c\":0,\"e\":\"define\",\"i\":0,\"k\":1,\"state\":\"building\"}\n{\"e\":\"publish\",\"i\":0,\"v\":{\"0\":1}}\n{\"c\":0,\"e\":\"online\",\"indexes\":[0],\"k\":1}\n{\"c\":0,\"e\":\"mutate\",\"k\":2,\"seq\":2,\"vb\":0}\n{\"c\":0,\"d\":{},\"e\":\"start\",\"i\":0,\"k\":3}\n{\"c\":0,\"e\":\"answer\",\"k\":3,\"rows\":[{\"id\":\"a\",\"keys\":[[5]]}],\"v\":{\"0\":1}}\n{\"e\":\"publish\",\"i\":0,\"v\":{\"0\":2}}\n{\"e\":\"end\",\"events\":8,\"high\":{\"0\":2},\"indexes\":[{\"i\":0,\"name\":\"ix\",\"rows\":0,\"state\":\"online\",\"v\":{\"0\":2}}]}\n",
         ),
+        (
+            "{\"gsi\":1,\"vbuckets\":4,\"clients\":1}\n{\"c\":0,\"do\":\"upsert\",\"id\":\"d\",\"doc\":{\"x\":0}}\n{\"c\":0,\"do\":\"upsert\",\"id\":\"c\",\"doc\":{\"x\":0}}\n{\"c\":0,\"do\":\"upsert\",\"id\":\"b\",\"doc\":{\"x\":0}}\n{\"c\":0,\"do\":\"upsert\",\"id\":\"a\",\"doc\":{\"x\":0}}\n",
+            "{\"c\":0,\"e\":\"mutate\",\"k\":0,\"seq\":1,\"vb\":3}\n{\"c\":0,\"e\":\"mutate\",\"k\":1,\"seq\":1,\"vb\":2}\n{\"c\":0,\"e\":\"mutate\",\"k\":2,\"seq\":1,\"vb\":1}\n{\"c\":0,\"e\":\"mutate\",\"k\":3,\"seq\":1,\"vb\":0}\n{\"e\":\"end\",\"events\":4,\"high\":{\"0\":1,\"1\":1,\"2\":1,\"3\":1},\"indexes\":[]}\n",
+        ),
     ] {
-        let (found, held) = answered(rt.alloc(), input, &[], &[])?;
-        assert!(rt; found == Status::Done, "{input}");
-        assert!(rt; held.as_slice() == report.as_bytes(), "{input}");
+        check(&rt, input, Status::Done, report)?;
     }
     Ok(())
 }

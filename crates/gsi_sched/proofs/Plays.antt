@@ -1,5 +1,6 @@
 -- One command after another, and what is left when no command is.
-use Rattle.std.proofs.Common.{Result, Ok, Err, OnOk, ◌≡◌, ℕ, suc, zero, ◌+◌, ◌*◌, Bool, true, false, List, [], ◌∷◌, ◌++◌, length, drop, Option, Some, None, add-one, refl, sym, ap, ◌∙◌, subst, append-nil, arith}
+use Rattle.std.proofs.lemmas.List.{length-append}
+use Rattle.std.proofs.Common.{Result, Ok, Err, OnOk, ◌≡◌, ℕ, suc, zero, ◌≤◌, ◌<◌, ◌^◌, ◌+◌, ◌*◌, Bool, true, false, List, [], ◌∷◌, ◌++◌, length, drop, Option, Some, None, add-one, refl, sym, ap, ◌∙◌, subst, append-nil, arith}
 use Rattle.std.specs.Prelude.{⊤, ◌-◌, is_some, if◌then◌else◌, slice_get, IsSome, codes, map as map_list, option_and_then}
 use Rattle.std.specs.List.{flat_map, AllByRecursion}
 use Rattle.std.specs.Option.{option_map_or}
@@ -21,7 +22,7 @@ use Rattle.gsi_sched.specs.declared.built.Built.{Built}
 use Rattle.gsi_sched.specs.declared.machine.Machine.{Machine}
 use Rattle.gsi_sched.specs.Replay.{catch_up, opening, commands_of, action_by, action, after_actions, after_client, after_clients, last_publications, replay_of}
 use Rattle.gsi_sched.specs.Run.{StandsFor, shown, HoldsIndexes, IsReached, IsRunAt, IsRun, IsAfter, IsPlayed, publications, board_after}
-use Rattle.gsi_sched.specs.Sound.{MayCome, made_after, IsInOrder, IsSound}
+use Rattle.scan_history.specs.Sound.{MayCome, made_after, IsInOrder, IsBuilt, all_commands}
 use Rattle.gsi_sched.proofs.Runs.{kept_of, kept_published, state_published, has_index, no_indexes}
 
 pub none_of : {A : Type 0} (o : Option A) → is_some o ≡ false → o ≡ None
@@ -153,10 +154,24 @@ closed_ends script k m run b b' there at events end is field board stands e =
 
 -- ---- the beginning
 
-pub begun : (script : Script) (m : Machine) → IsSound script → m.store.vbuckets ≡ script.vbuckets → m.store.log ≡ [] → m.index ≡ None → m.seen ≡ zeros script.vbuckets → length m.seen ≡ script.vbuckets → m.events ≡ [] → m.answers ≡ []
+first_in_order : (lists : List (List Command)) → AllByRecursion (IsInOrder false) lists → IsInOrder false (option_map_or (λ commands. commands) (slice_get lists 0) [])
+first_in_order [] all = tt
+first_in_order (commands ∷ others) all = all.0
+
+-- the first client's commands are among all
+first_among : (lists : List (List Command)) → length (option_map_or (λ commands. commands) (slice_get lists 0) []) ≤ length (flat_map (λ commands. commands) lists)
+first_among [] = omega arith
+first_among (commands ∷ others) =
+    let parts : length (commands ++ flat_map (λ commands. commands) others) ≡ length commands + length (flat_map (λ commands. commands) others) = length-append commands (flat_map (λ commands. commands) others) in
+    omega arith
+
+pub few_commands : (script : Script) → length (all_commands script) ≤ 65536 → length (commands_of script 0) < 2 ^ 32
+few_commands script few = let among = first_among script.commands in omega arith
+
+pub begun : (script : Script) (m : Machine) → IsBuilt script → m.store.vbuckets ≡ script.vbuckets → m.store.log ≡ [] → m.index ≡ None → m.seen ≡ zeros script.vbuckets → length m.seen ≡ script.vbuckets → m.events ≡ [] → m.answers ≡ []
     → IsPlayed script 0 m
 unfolding state_after answers_of
-begun script m sound vbuckets log index seen size events answers =
+begun script m built vbuckets log index seen size events answers =
     let n = script.vbuckets in
     let first : state_after n m.events ≡ first_state n = ap (state_after n) events in
     record {
@@ -174,8 +189,7 @@ begun script m sound vbuckets log index seen size events answers =
       actions = 0;
       few = omega arith;
       events = events;
-      in_order = subst (λ (o : Option Built). IsInOrder (is_some o) (commands_of script 0)) (sym index)
-          (subst (λ (lists : List (List Command)). IsInOrder false (option_map_or (λ commands. commands) (slice_get lists 0) [])) (sym sound.one_list) sound.in_order);
+      in_order = subst (λ (o : Option Built). IsInOrder (is_some o) (commands_of script 0)) (sym index) (first_in_order script.commands built.in_order);
     }
 
 pub on_ok_three : {E A B C D : Type 0} (r : Result ⊤ E) → (A → B → C → D) → OnOk r A → OnOk r B → OnOk r C → OnOk r D

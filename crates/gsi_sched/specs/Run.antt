@@ -16,7 +16,7 @@ use Rattle.scan_history.specs.Events.{Event, mutate, define, publish, online, st
 use Rattle.scan_history.specs.Fold.{nothing, Index, State, state_after}
 use Rattle.scan_history.specs.Answers.{answers_of}
 use Rattle.gsi_sched.specs.Replay.{commands_of, after_actions}
-use Rattle.gsi_sched.specs.Sound.{IsInOrder}
+use Rattle.scan_history.specs.Sound.{IsInOrder}
 use Rattle.gsi_sched.specs.declared.built.Built.{Built}
 use Rattle.gsi_sched.specs.declared.machine.Machine.{Machine}
 

@@ -3,7 +3,7 @@ ghost use Rattle.std.specs.Option.{option_copied};
 ghost use Rattle.scan_history.specs.Answers.{command_at};
 ghost use Rattle.gsi_sched.specs.Replay.{commands_of};
 ghost use Rattle.gsi_sched.specs.Run.{IsRun, IsAfter, IsPlayed};
-ghost use Rattle.gsi_sched.specs.Sound.{MayCome, made_after};
+ghost use Rattle.scan_history.specs.Sound.{MayCome, made_after};
 
 use crate::machine::{Machine, create, delete, scan, upsert};
 use n1ql_value::Memory;

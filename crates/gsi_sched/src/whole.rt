@@ -3,7 +3,7 @@ ghost use Rattle.std.specs.Arc.{arc_value};
 ghost use Rattle.scan_history.specs.Answers.{answers_of, ends_of};
 ghost use Rattle.gsi_sched.specs.Replay.{replay_of};
 ghost use Rattle.gsi_sched.specs.Run.{IsPlayed};
-ghost use Rattle.gsi_sched.specs.Sound.{IsSound};
+ghost use Rattle.scan_history.specs.Sound.{IsSound, IsBuilt};
 
 use crate::client::{command_count, perform_all};
 use crate::ends::close;
@@ -18,7 +18,8 @@ use vb_store::laws::high_counts;
 
 /// Before the first command.
 fn begin(alloc: Global, script: &Script) -> Result<Machine, Memory>
-    requires { IsSound script.now }
+    requires sound { IsSound script.now }
+    requires built { IsBuilt script.now }
     ensures { IfOk result (λ machine. IsPlayed script.now 0 machine) }
 {
     high_counts();
@@ -32,7 +33,8 @@ fn begin(alloc: Global, script: &Script) -> Result<Machine, Memory>
 }
 
 fn outcome(alloc: Global, script: &Script) -> Result<Done, Memory>
-    requires { IsSound script.now }
+    requires sound { IsSound script.now }
+    requires built { IsBuilt script.now }
     ensures events { IfOk result (λ done. done.events ≡ replay_of script.now) }
     ensures answers { IfOk result (λ done. done.answers ≡ answers_of script.now (replay_of script.now)) }
     ensures ends { IfOk result (λ done. done.ends ≡ ends_of script.now (replay_of script.now)) }
@@ -49,8 +51,13 @@ fn outcome(alloc: Global, script: &Script) -> Result<Done, Memory>
 }
 
 /// The outcome of a script: its history, the answers of the history, and how its indexes end there.
+///
+/// # Errors
+///
+/// `Memory` where memory ran out.
 pub fn replay(alloc: Global, script: Arc<Script>) -> Result<Done, Memory>
     requires sound { IsSound (arc_value script) }
+    requires built { IsBuilt (arc_value script) }
     ensures events { IfOk result (λ done. done.events ≡ replay_of (arc_value script)) }
     ensures answers { IfOk result (λ done. done.answers ≡ answers_of (arc_value script) (replay_of (arc_value script))) }
     ensures ends { IfOk result (λ done. done.ends ≡ ends_of (arc_value script) (replay_of (arc_value script))) }

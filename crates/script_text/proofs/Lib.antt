@@ -1,3 +1,17 @@
 pub mod LineLemmas
 pub mod ReportLemmas
 pub mod CountLemmas
+pub mod Entries
+pub mod Input
+pub mod Digits
+pub mod Read
+pub mod Rows
+pub mod Values
+pub mod Lists
+pub mod Bounds
+pub mod Items
+pub mod ListBounds
+pub mod HeaderBounds
+pub mod ItemBounds
+pub mod Sound
+pub mod Limits

@@ -1,3 +1,12 @@
 pub mod Lines
 pub mod Reports
 pub mod Counts
+pub mod Input
+pub mod Members
+pub mod SparseVectors
+pub mod SpanForms
+pub mod Rows
+pub mod Built
+pub mod Items
+pub mod Scripts
+pub mod Reading

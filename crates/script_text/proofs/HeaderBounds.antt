@@ -1,0 +1,111 @@
+-- What a header that is read says.
+use Rattle.std.proofs.Common.{◌≡◌, ℕ, ◌≤◌, Bool, true, false, cond, not, List, length, Option, Some, None, Result, Ok, Err, pos, unwrap_or, refl, ap, subst, leb, lit≤}
+use Rattle.std.specs.Prelude.{◌&&◌, codes, option_and_then, unsigned_abs}
+use Rattle.std.specs.Option.{is_some}
+use Rattle.std.proofs.lemmas.Bool.{leb-true}
+use Rattle.std.proofs.lemmas.Bool.Decides.{Decides-int_eq}
+use Rattle.std.proofs.lemmas.Slice.Eq.{bytes_eq-Decides}
+use Rattle.n1ql_value.specs.declared.value.Value.{Value}
+use Rattle.n1ql_value.specs.declared.value.Value.TheVariants.{Missing, Null, Bool as Flag, Int, Text, Array, Object}
+use Rattle.scan_history.specs.declared.kind.Kind.{Kind}
+use Rattle.scan_history.specs.declared.kind.Kind.TheVariants as kinds
+use Rattle.scan_history.specs.Sound.{IsWithin}
+use Rattle.script_text.specs.declared.reader.header.Header.{Header}
+use Rattle.script_text.specs.declared.reader.member.Member.{Member}
+use Rattle.script_text.specs.declared.reader.member_kind.MemberKind.TheVariants as kind
+use Rattle.script_text.specs.declared.reader.sizes.Sizes.{Sizes}
+use Rattle.script_text.specs.Members.{Members, text_in, value_at, text_at, number_at}
+use Rattle.script_text.specs.Rows.{in_range, is_text_within, has_shape, has_needed, header_row, is_within}
+use Rattle.script_text.specs.Built.{is_header_built}
+use Rattle.script_text.specs.Items.{no_sizes, is_other_version, header_with, header_in, header_of, members_of, and_then}
+use Rattle.script_text.proofs.Bounds.{both, Admits, count_bounds, needed_bounds, header_admits}
+
+abbrev text_from : List ℕ → Option Value → List ℕ
+text_from other found = unwrap_or (option_and_then text_in found) other
+
+text_tests : (least most : ℕ) (t : List ℕ) → (leb least (length t) && leb (length t) most) ≡ true → IsWithin least most (length t)
+text_tests least most t e =
+    let p = both (leb least (length t)) (leb (length t) most) e in (leb-true least (length t) p.0, leb-true (length t) most p.1)
+
+text_value : (least most : ℕ) (other : List ℕ) (v : Value) → is_text_within least most v ≡ true → IsWithin least most (length (text_from other (Some v)))
+text_value least most other (Text t) e = text_tests least most t e
+text_value least most other Missing e = cc
+text_value least most other Null e = cc
+text_value least most other (Flag b) e = cc
+text_value least most other (Int z) e = cc
+text_value least most other (Array ds) e = cc
+text_value least most other (Object ps) e = cc
+
+-- a text that stands or has a default, and one that has to stand
+pub text_bounds : (sizes : Sizes) (least most : ℕ) (other : List ℕ) (found : Option Value) → IsWithin least most (length other) → Admits sizes (kind.Text least most) found
+    → IsWithin least most (length (text_from other found))
+unfolding in_range
+text_bounds sizes least most other None fits e = fits
+text_bounds sizes least most other (Some v) fits e = text_value least most other v e
+
+pub needed_text_bounds : (sizes : Sizes) (least most : ℕ) (other : List ℕ) (found : Option Value) → is_some found ≡ true → Admits sizes (kind.Text least most) found
+    → IsWithin least most (length (text_from other found))
+unfolding in_range
+needed_text_bounds sizes least most other None stands e = cc
+needed_text_bounds sizes least most other (Some v) stands e = text_value least most other v e
+
+-- the needed members of a row that has its shape stand
+pub shape-needed : (row : List Member) (members : Members) → has_shape row members ≡ true → has_needed row members ≡ true
+unfolding has_shape
+shape-needed row members e = (both _ _ (both _ _ e).0).1
+
+pub record HeaderFits (header : Header) : Type 0 where
+  pub vbuckets : IsWithin 1 1024 header.sizes.vbuckets
+  pub clients : IsWithin 1 64 header.sizes.clients
+  pub workers : header.workers ≤ 16
+  pub batch : IsWithin 1 4096 header.batch
+  pub keyspace : IsWithin 1 100 (length header.keyspace)
+  pub one_client : header.sizes.clients ≡ 1
+  pub built_keyspace : header.keyspace ≡ codes "ks"
+
+header_built : (members : Members) → is_header_built members ≡ true → (text_at (codes "keyspace") (codes "ks") members ≡ codes "ks") × (number_at (codes "clients") (pos 0) members ≡ pos 1)
+unfolding is_header_built
+header_built members e =
+    let p = both _ _ e in
+    ((bytes_eq-Decides (text_at (codes "keyspace") (codes "ks") members) (codes "ks")).0 p.0, (Decides-int_eq (number_at (codes "clients") (pos 0) members) (pos 1)).0 p.1)
+
+header_fits : (members : Members) → has_shape header_row members ≡ true → is_within no_sizes header_row members ≡ true → is_header_built members ≡ true → HeaderFits (header_with members)
+header_fits members shape within built =
+    let a = both _ _ (shape-needed header_row members shape) in
+    let vbuckets = both _ _ a.1 in
+    let clients = both _ _ vbuckets.1 in
+    let admits = header_admits members within in
+    let is = header_built members built in
+    record {
+      vbuckets = needed_bounds no_sizes 1 1024 0 (value_at (codes "vbuckets") members) vbuckets.0 admits.vbuckets;
+      clients = needed_bounds no_sizes 1 64 0 (value_at (codes "clients") members) clients.0 admits.clients;
+      workers = (count_bounds no_sizes 0 16 2 (value_at (codes "workers") members) (lit≤ tt) (lit≤ tt) admits.workers).1;
+      batch = count_bounds no_sizes 1 4096 64 (value_at (codes "batch") members) (lit≤ tt) (lit≤ tt) admits.batch;
+      keyspace = text_bounds no_sizes 1 100 (codes "ks") (value_at (codes "keyspace") members) (lit≤ tt, lit≤ tt) admits.keyspace;
+      one_client = ap unsigned_abs is.1;
+      built_keyspace = is.0;
+    }
+
+-- each test in turn passed
+header_tests : (version shape within built : Bool) (made header : Header)
+    → cond version (Err kinds.Version) (cond (not shape) (Err kinds.Shape) (cond (not within) (Err kinds.Range) (cond (not built) (Err kinds.Unbuilt) (Ok made)))) ≡ Ok header
+    → (shape ≡ true) × (within ≡ true) × (built ≡ true) × (made ≡ header)
+header_tests true shape within built made header e = cc
+header_tests false false within built made header e = cc
+header_tests false true false built made header e = cc
+header_tests false true true false made header e = cc
+header_tests false true true true made header e = (refl, refl, refl, cc)
+
+header_in-fits : (members : Members) (header : Header) → header_in members ≡ Ok header → HeaderFits header
+unfolding header_in
+header_in-fits members header e =
+    let p = header_tests (is_other_version members) (has_shape header_row members) (is_within no_sizes header_row members) (is_header_built members) (header_with members) header e in
+    subst HeaderFits p.3 (header_fits members p.0 p.1 p.2)
+
+after_members : (r : Result Members Kind) (header : Header) → and_then header_in r ≡ Ok header → HeaderFits header
+after_members (Ok members) header e = header_in-fits members header e
+after_members (Err kind) header e = cc
+
+pub header_of-fits : (line : List ℕ) (header : Header) → header_of line ≡ Ok header → HeaderFits header
+unfolding header_of
+header_of-fits line header e = after_members (members_of line) header e

@@ -1,0 +1,186 @@
+-- What a line after the header that is read says.
+use Rattle.std.proofs.Common.{◌≡◌, ℕ, ◌<◌, ◌≤◌, Bool, true, false, cond, not, List, [], ◌∷◌, length, map, Option, Some, None, option_map, Result, Ok, Err, ℤ, pos, negsuc, refl, arith, subst, leb}
+use borrow.Author.Tests.{ltb-true}
+use Rattle.std.specs.Prelude.{◌&&◌, codes, int_le, int_lt, unsigned_abs}
+use Rattle.std.specs.List.{AllByRecursion}
+use Rattle.std.specs.Option.{option_map_or, is_some, ok_or}
+use Rattle.std.proofs.lemmas.Bool.{leb-true}
+use Rattle.std.proofs.lemmas.List.{length-map}
+use Rattle.std.proofs.lemmas.Slice.Eq.{bytes_eq-Decides}
+use Rattle.n1ql_value.specs.declared.datum.Datum.{Datum}
+use Rattle.n1ql_value.specs.declared.value.Value.{Value}
+use Rattle.n1ql_value.specs.declared.value.Value.TheVariants.{Missing, Null, Bool as Flag, Int, Text, Array, Object}
+use Rattle.n1ql_value.specs.Datum.{value_of}
+use Rattle.scan_history.specs.declared.kind.Kind.{Kind}
+use Rattle.scan_history.specs.declared.kind.Kind.TheVariants as kinds
+use Rattle.scan_history.specs.Ddl.{index_name}
+use Rattle.scan_history.specs.Sound.{IsRange, IsSpan, AreSpans, IsWithinBounds, MayCome}
+use Rattle.script_text.specs.declared.reader.form.Form.{Form}
+use Rattle.script_text.specs.declared.reader.form.Form.TheVariants.{Upsert, Delete, Ddl, Scan, Query, Client, Project, Deliver, Lose, Publish, Rewind}
+use Rattle.script_text.specs.declared.reader.item.Item.{Item}
+use Rattle.script_text.specs.declared.reader.member_kind.MemberKind.TheVariants as kind
+use Rattle.script_text.specs.declared.reader.sizes.Sizes.{Sizes}
+use Rattle.script_text.specs.Members.{Members, value_at, text_at, each_item}
+use Rattle.script_text.specs.SpanForms.{range_of, span_of, spans_of, is_span_within, are_spans_within}
+use Rattle.script_text.specs.Rows.{in_range, is_number_below, form_of, row_of, has_shape, has_needed, is_within}
+use Rattle.script_text.specs.Built.{is_built}
+use Rattle.script_text.specs.Items.{command_of, item_with, item_in, item_at, item_of, members_of, and_then}
+use Rattle.script_text.proofs.Bounds.{both, Admits, count_in}
+use Rattle.script_text.proofs.HeaderBounds.{needed_text_bounds, shape-needed}
+
+incl_bounds : (b d e : Bool) → cond b 0 (cond d 1 (cond e 2 3)) ≤ 3
+incl_bounds true d e = omega arith
+incl_bounds false true e = omega arith
+incl_bounds false false true = omega arith
+incl_bounds false false false = omega arith
+
+range_fits : (v : Value) → IsRange (range_of v)
+range_fits v = incl_bounds _ _ _
+
+ranges_fit : (ds : List Datum) → AllByRecursion IsRange (map (λ d. range_of (value_of d)) ds)
+ranges_fit [] = tt
+ranges_fit (d ∷ ds) = (range_fits (value_of d), ranges_fit ds)
+
+span_fits : (v : Value) → is_span_within v ≡ true → IsSpan (span_of v)
+span_fits (Array ds) e =
+    let few = leb-true (length ds) 16 (both _ _ e).0 in
+    let same : length (map (λ d. range_of (value_of d)) ds) ≡ length ds = length-map ds (λ d. range_of (value_of d)) in
+    (omega arith, ranges_fit ds)
+span_fits Missing e = cc
+span_fits Null e = cc
+span_fits (Flag b) e = cc
+span_fits (Int z) e = cc
+span_fits (Text t) e = cc
+span_fits (Object ps) e = cc
+
+each_span_fits : (ds : List Datum) → each_item is_span_within ds ≡ true → AllByRecursion IsSpan (map (λ d. span_of (value_of d)) ds)
+each_span_fits [] e = tt
+each_span_fits (d ∷ ds) e = let p = both (is_span_within (value_of d)) (each_item is_span_within ds) e in (span_fits (value_of d) p.0, each_span_fits ds p.1)
+
+spans_fit : (v : Value) → are_spans_within v ≡ true → AreSpans (spans_of v)
+spans_fit (Array ds) e =
+    let p = both (leb (length ds) 64) (each_item is_span_within ds) e in
+    let few = leb-true (length ds) 64 p.0 in
+    let same : length (map (λ d. span_of (value_of d)) ds) ≡ length ds = length-map ds (λ d. span_of (value_of d)) in
+    (omega arith, each_span_fits ds p.1)
+spans_fit Missing e = cc
+spans_fit Null e = cc
+spans_fit (Flag b) e = cc
+spans_fit (Int z) e = cc
+spans_fit (Text t) e = cc
+spans_fit (Object ps) e = cc
+
+spans_found : (sizes : Sizes) (found : Option Value) → Admits sizes kind.Spans found → AreSpans (option_map_or spans_of found ([] ∷ []))
+unfolding in_range
+spans_found sizes None e = (omega arith, ((omega arith, tt), tt))
+spans_found sizes (Some v) e = spans_fit v e
+
+int_below : (n : ℕ) (z : ℤ) → (int_le (pos 0) z && int_lt z (pos n)) ≡ true → unsigned_abs z < n
+int_below n (pos m) e = ltb-true m n (both (int_le (pos 0) (pos m)) (int_lt (pos m) (pos n)) e).1
+int_below n (negsuc m) e = cc
+
+number_below : (n : ℕ) (v : Value) → is_number_below n v ≡ true → count_in 0 (Some v) < n
+number_below n (Int z) e = int_below n z e
+number_below n Missing e = cc
+number_below n Null e = cc
+number_below n (Flag b) e = cc
+number_below n (Text t) e = cc
+number_below n (Array ds) e = cc
+number_below n (Object ps) e = cc
+
+client_below : (sizes : Sizes) (found : Option Value) → is_some found ≡ true → Admits sizes kind.Client found → count_in 0 found < sizes.clients
+unfolding in_range
+client_below sizes None stands e = cc
+client_below sizes (Some v) stands e = number_below sizes.clients v e
+
+pub record ItemFits (sizes : Sizes) (defined : Bool) (item : Item) : Type 0 where
+  pub client : item.client < sizes.clients
+  pub bounds : IsWithinBounds item.command
+  pub comes : MayCome defined item.command
+
+same_ok : (a b : Item) (r : Result Item Kind) → r ≡ Ok a → r ≡ Ok b → a ≡ b
+same_ok a b r e f = cc
+
+is_not : (b : Bool) → not b ≡ true → b ≡ false
+is_not true e = cc
+is_not false e = refl
+
+-- what a form says, by its row and by what is built
+form_fits : (sizes : Sizes) (defined : Bool) (form : Form) (members : Members) (item : Item) → has_needed (row_of form) members ≡ true
+    → is_within sizes (row_of form) members ≡ true → is_built defined form members ≡ true → ok_or (option_map (item_with members) (command_of form members)) kinds.Unbuilt ≡ Ok item → ItemFits sizes defined item
+unfolding row_of is_within is_built command_of
+form_fits sizes defined Upsert members item stands within built e =
+    let s = both _ _ stands in
+    let w = both _ _ within in
+    let s2 = both _ _ (both _ _ s.1).1 in
+    let w2 = both _ _ (both _ _ w.1).1 in
+    subst (ItemFits sizes defined) (same_ok _ item _ refl e) (record {
+      client = client_below sizes (value_at (codes "c") members) s.0 w.0;
+      bounds = needed_text_bounds sizes 1 250 [] (value_at (codes "id") members) s2.0 w2.0;
+      comes = tt;
+    })
+form_fits sizes defined Delete members item stands within built e =
+    let s = both _ _ stands in
+    let w = both _ _ within in
+    let s2 = both _ _ (both _ _ s.1).1 in
+    let w2 = both _ _ (both _ _ w.1).1 in
+    subst (ItemFits sizes defined) (same_ok _ item _ refl e) (record {
+      client = client_below sizes (value_at (codes "c") members) s.0 w.0;
+      bounds = needed_text_bounds sizes 1 250 [] (value_at (codes "id") members) s2.0 w2.0;
+      comes = tt;
+    })
+form_fits sizes defined Ddl members item stands within built e =
+    let s = both _ _ stands in
+    let w = both _ _ within in
+    let b = both _ _ built in
+    subst (ItemFits sizes defined) (same_ok _ item _ refl e) (record {
+      client = client_below sizes (value_at (codes "c") members) s.0 w.0;
+      bounds = tt;
+      comes = (is_not defined b.0, b.1);
+    })
+form_fits sizes defined Scan members item stands within built e =
+    let s = both _ _ stands in
+    let w = both _ _ within in
+    let w3 = both _ _ (both _ _ (both _ _ w.1).1).1 in
+    let b = both _ _ (both _ _ built).0 in
+    subst (ItemFits sizes defined) (same_ok _ item _ refl e) (record {
+      client = client_below sizes (value_at (codes "c") members) s.0 w.0;
+      bounds = spans_found sizes (value_at (codes "spans") members) w3.0;
+      comes = (b.0, (bytes_eq-Decides (text_at (codes "index") [] members) index_name).0 b.1);
+    })
+form_fits sizes defined Query members item stands within built e = cc
+form_fits sizes defined Client members item stands within built e = cc
+form_fits sizes defined Project members item stands within built e = cc
+form_fits sizes defined Deliver members item stands within built e = cc
+form_fits sizes defined Lose members item stands within built e = cc
+form_fits sizes defined Publish members item stands within built e = cc
+form_fits sizes defined Rewind members item stands within built e = cc
+
+-- each test in turn passed
+item_tests : (shape within built : Bool) (made : Result Item Kind) (item : Item)
+    → cond (not shape) (Err kinds.Shape) (cond (not within) (Err kinds.Range) (cond (not built) (Err kinds.Unbuilt) made)) ≡ Ok item
+    → (shape ≡ true) × (within ≡ true) × (built ≡ true) × (made ≡ Ok item)
+item_tests false within built made item e = cc
+item_tests true false built made item e = cc
+item_tests true true false made item e = cc
+item_tests true true true made item e = (refl, refl, refl, e)
+
+item_in-fits : (sizes : Sizes) (defined : Bool) (form : Form) (members : Members) (item : Item) → item_in sizes defined form members ≡ Ok item → ItemFits sizes defined item
+unfolding item_in
+item_in-fits sizes defined form members item e =
+    let p = item_tests (has_shape (row_of form) members) (is_within sizes (row_of form) members) (is_built defined form members)
+    (ok_or (option_map (item_with members) (command_of form members)) kinds.Unbuilt) item e in
+    form_fits sizes defined form members item (shape-needed (row_of form) members p.0) p.1 p.2 p.3
+
+after_form : (sizes : Sizes) (defined : Bool) (members : Members) (found : Option Form) (item : Item)
+    → and_then (λ form. item_in sizes defined form members) (ok_or found kinds.Shape) ≡ Ok item → ItemFits sizes defined item
+after_form sizes defined members (Some form) item e = item_in-fits sizes defined form members item e
+after_form sizes defined members None item e = cc
+
+after_members : (sizes : Sizes) (defined : Bool) (r : Result Members Kind) (item : Item) → and_then (item_at sizes defined) r ≡ Ok item → ItemFits sizes defined item
+after_members sizes defined (Ok members) item e = after_form sizes defined members (form_of members) item e
+after_members sizes defined (Err kind) item e = cc
+
+pub item_of-fits : (sizes : Sizes) (defined : Bool) (line : List ℕ) (item : Item) → item_of sizes defined line ≡ Ok item → ItemFits sizes defined item
+unfolding item_of
+item_of-fits sizes defined line item e = after_members sizes defined (members_of line) item e

@@ -1,0 +1,107 @@
+-- What a line says: the header, or a command of a client; else the first kind of what is wrong with it.
+use Rattle.std.specs.Prelude.{ℕ, pos, List, [], ◌∷◌, codes, unsigned_abs, Bool, not, Option, Some, None, option_map, unwrap_or, Result, Ok, Err, if◌then◌else◌}
+use Rattle.std.specs.Option.{option_map_or, ok_or}
+use Rattle.std.specs.Ordering.{int_eq}
+use Rattle.n1ql_value.specs.declared.datum.Datum.{Datum}
+use Rattle.n1ql_value.specs.declared.range.Range.{Range}
+use Rattle.n1ql_value.specs.declared.value.Value.TheVariants as value
+use Rattle.n1ql_value.specs.Datum.{value_of}
+use Rattle.n1ql_json.specs.declared.fault.JsonFault.{JsonFault}
+use Rattle.n1ql_json.specs.declared.fault.JsonFault.TheVariants as json
+use Rattle.n1ql_json.specs.Reads.{read_of}
+use Rattle.scan_history.specs.declared.command.Command.{Command}
+use Rattle.scan_history.specs.declared.command.Command.TheVariants as command
+use Rattle.scan_history.specs.declared.kind.Kind.{Kind}
+use Rattle.scan_history.specs.declared.kind.Kind.TheVariants.{Syntax, Number, Version, Shape, Range as OutOfRange, Unbuilt}
+use Rattle.script_text.specs.declared.reader.form.Form.{Form}
+use Rattle.script_text.specs.declared.reader.form.Form.TheVariants.{Upsert, Delete, Ddl, Scan, Query, Client, Project, Deliver, Lose, Publish, Rewind}
+use Rattle.script_text.specs.declared.reader.header.Header.{Header}
+use Rattle.script_text.specs.declared.reader.item.Item.{Item}
+use Rattle.script_text.specs.declared.reader.sizes.Sizes.{Sizes}
+use Rattle.script_text.specs.Members.{Members, object_in, value_at, text_at, number_at}
+use Rattle.script_text.specs.SpanForms.{spans_of}
+use Rattle.script_text.specs.Rows.{form_of, row_of, header_row, has_shape, is_within}
+use Rattle.script_text.specs.Built.{is_header_built, is_built}
+
+-- what comes of what a reading gave
+abbrev pub and_then : {A B : Type 0} → (A → Result B Kind) → Result A Kind → Result B Kind
+and_then f (Ok a) = f a
+and_then f (Err kind) = Err kind
+
+-- the members of the object that a line is
+abbrev pub members_in : Result Datum JsonFault → Result Members Kind
+members_in (Ok d) = ok_or (object_in (value_of d)) Shape
+members_in (Err json.Syntax) = Err Syntax
+members_in (Err json.Number) = Err Number
+members_in (Err json.Memory) = Err Syntax
+
+unfoldable pub members_of : List ℕ → Result Members Kind
+members_of line = members_in (read_of line)
+
+-- a number as a count: in its range it isn't negative
+abbrev pub count_at : List ℕ → ℕ → Members → ℕ
+count_at name other members = unsigned_abs (number_at name (pos other) members)
+
+-- what the header says
+abbrev pub header_with : Members → Header
+header_with members = record {
+  sizes = record { vbuckets = count_at (codes "vbuckets") 0 members; clients = count_at (codes "clients") 0 members };
+  workers = count_at (codes "workers") 2 members;
+  batch = count_at (codes "batch") 64 members;
+  keyspace = text_at (codes "keyspace") (codes "ks") members;
+}
+
+-- `gsi` is a whole number other than 1
+abbrev pub is_other_version : Members → Bool
+is_other_version members = not (int_eq (number_at (codes "gsi") (pos 1) members) (pos 1))
+
+-- the header's row has no sizes in it
+abbrev pub no_sizes : Sizes
+no_sizes = record { vbuckets = 0; clients = 0 }
+
+unfoldable pub header_in : Members → Result Header Kind
+header_in members =
+    if is_other_version members then Err Version
+    else if not (has_shape header_row members) then Err Shape
+    else if not (is_within no_sizes header_row members) then Err OutOfRange
+    else if not (is_header_built members) then Err Unbuilt
+    else Ok (header_with members)
+
+unfoldable pub header_of : List ℕ → Result Header Kind
+header_of line = and_then header_in (members_of line)
+
+-- the spans of a scan: one without ranges, where nothing is said
+abbrev pub spans_at : Members → List (List Range)
+spans_at members = option_map_or spans_of (value_at (codes "spans") members) ([] ∷ [])
+
+-- the command that a line of a form gives
+unfoldable pub command_of : Form → Members → Option Command
+command_of Upsert members = Some (command.Upsert (text_at (codes "id") [] members) (unwrap_or (value_at (codes "doc") members) value.Missing))
+command_of Delete members = Some (command.Delete (text_at (codes "id") [] members))
+command_of Ddl members = Some (command.Ddl (text_at (codes "q") [] members))
+command_of Scan members = Some (command.Scan (text_at (codes "index") [] members) (spans_at members))
+command_of Query members = None
+command_of Client members = None
+command_of Project members = None
+command_of Deliver members = None
+command_of Lose members = None
+command_of Publish members = None
+command_of Rewind members = None
+
+-- a command with the client that it is of
+abbrev pub item_with : Members → Command → Item
+item_with members c = record { client = count_at (codes "c") 0 members; command = c }
+
+-- a line of a form, where `defined` tells whether a ddl line came before it
+unfoldable pub item_in : Sizes → Bool → Form → Members → Result Item Kind
+item_in sizes defined form members =
+    if not (has_shape (row_of form) members) then Err Shape
+    else if not (is_within sizes (row_of form) members) then Err OutOfRange
+    else if not (is_built defined form members) then Err Unbuilt
+    else ok_or (option_map (item_with members) (command_of form members)) Unbuilt
+
+abbrev pub item_at : Sizes → Bool → Members → Result Item Kind
+item_at sizes defined members = and_then (λ form. item_in sizes defined form members) (ok_or (form_of members) Shape)
+
+unfoldable pub item_of : Sizes → Bool → List ℕ → Result Item Kind
+item_of sizes defined line = and_then (item_at sizes defined) (members_of line)

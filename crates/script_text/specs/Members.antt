@@ -1,0 +1,85 @@
+-- The members of an object, and what their values are.
+use Rattle.std.specs.Prelude.{ℕ, ℤ, List, Bool, false, Option, Some, None, option_map, option_and_then, unwrap_or}
+use Rattle.std.specs.List.{list_all}
+use Rattle.std.specs.Option.{option_map_or}
+use Rattle.std.specs.Str.{bytes_eq}
+use Rattle.n1ql_value.specs.declared.datum.Datum.{Datum}
+use Rattle.n1ql_value.specs.declared.value.Value.{Value}
+use Rattle.n1ql_value.specs.declared.value.Value.TheVariants as value
+use Rattle.n1ql_value.specs.Datum.{value_of}
+use Rattle.n1ql_value.specs.Names.{under_name}
+
+-- names with their values, in byte order of the names and each name once
+abbrev pub Members : Type 0
+Members = List (List ℕ × Datum)
+
+-- what a value is, None where it is another thing
+abbrev pub object_in : Value → Option Members
+object_in value.Missing = None
+object_in value.Null = None
+object_in (value.Bool b) = None
+object_in (value.Int z) = None
+object_in (value.Text t) = None
+object_in (value.Array ds) = None
+object_in (value.Object members) = Some members
+
+abbrev pub items_in : Value → Option (List Datum)
+items_in value.Missing = None
+items_in value.Null = None
+items_in (value.Bool b) = None
+items_in (value.Int z) = None
+items_in (value.Text t) = None
+items_in (value.Array ds) = Some ds
+items_in (value.Object members) = None
+
+abbrev pub text_in : Value → Option (List ℕ)
+text_in value.Missing = None
+text_in value.Null = None
+text_in (value.Bool b) = None
+text_in (value.Int z) = None
+text_in (value.Text t) = Some t
+text_in (value.Array ds) = None
+text_in (value.Object members) = None
+
+abbrev pub number_in : Value → Option ℤ
+number_in value.Missing = None
+number_in value.Null = None
+number_in (value.Bool b) = None
+number_in (value.Int z) = Some z
+number_in (value.Text t) = None
+number_in (value.Array ds) = None
+number_in (value.Object members) = None
+
+abbrev pub flag_in : Value → Option Bool
+flag_in value.Missing = None
+flag_in value.Null = None
+flag_in (value.Bool b) = Some b
+flag_in (value.Int z) = None
+flag_in (value.Text t) = None
+flag_in (value.Array ds) = None
+flag_in (value.Object members) = None
+
+-- the value is this text
+abbrev pub is_word : List ℕ → Value → Bool
+is_word word v = option_map_or (λ t. bytes_eq t word) (text_in v) false
+
+-- the value under a name
+abbrev pub value_at : List ℕ → Members → Option Value
+value_at name members = option_map value_of (under_name name members)
+
+-- what stands under a name; where no such thing stands there, the other one
+abbrev pub text_at : List ℕ → List ℕ → Members → List ℕ
+text_at name other members = unwrap_or (option_and_then text_in (value_at name members)) other
+
+abbrev pub number_at : List ℕ → ℤ → Members → ℤ
+number_at name other members = unwrap_or (option_and_then number_in (value_at name members)) other
+
+abbrev pub flag_at : List ℕ → Bool → Members → Bool
+flag_at name other members = unwrap_or (option_and_then flag_in (value_at name members)) other
+
+-- each member passes, each item passes
+abbrev pub each_member : (List ℕ → Value → Bool) → Members → Bool
+each_member test members = list_all (λ m. test m.0 (value_of m.1)) members
+
+abbrev pub each_item : (Value → Bool) → List Datum → Bool
+each_item test items = list_all (λ d. test (value_of d)) items
