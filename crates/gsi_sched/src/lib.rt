@@ -8,8 +8,6 @@ mod client;
 mod ends;
 mod machine;
 mod rows_text;
-#[cfg(test)]
-mod tests;
 mod whole;
 
 pub use whole::replay;

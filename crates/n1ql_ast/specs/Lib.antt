@@ -1,0 +1,9 @@
+pub mod Marks
+pub mod Called
+pub mod Operators
+pub mod Grammar
+pub mod Faults
+pub mod Names
+pub mod Evaluation
+pub mod Forms
+pub mod Conjunction

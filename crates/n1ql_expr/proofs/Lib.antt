@@ -1,0 +1,6 @@
+pub mod Alike
+pub mod Around
+pub mod ByCases
+pub mod Elements
+pub mod Parts
+pub mod Values
