@@ -14,7 +14,8 @@ use Rattle.vb_store.specs.Mutations.{high_of, next_of}
 use Rattle.scan_history.specs.declared.command.Command.{Command}
 use Rattle.scan_history.specs.declared.command.Command.TheVariants.{Upsert, Delete, Ddl, Scan}
 use Rattle.scan_history.specs.declared.script.Script.{Script}
-use Rattle.scan_history.specs.Ddl.{field_name}
+use Rattle.index_def.specs.declared.definition.IndexDef.{IndexDef}
+use Rattle.scan_history.specs.Ddl.{definition_of_text}
 use Rattle.scan_history.specs.Events.{Event, mutate, define, publish, online, start, answer}
 use Rattle.scan_history.specs.Fold.{work, Client, Index, State, state_after}
 use Rattle.scan_history.specs.Answers.{command_at}
@@ -63,30 +64,30 @@ two_actions script events first second a b =
     ap (λ more. (events ++ first) ++ more) (sym b) ∙ ap (λ es. es ++ action script es 0) (ap (λ more. events ++ more) (sym a))
 
 -- the creation of the index is two actions
-pub created : (script : Script) (k : ℕ) (m : Machine) (text : List ℕ) (at : Option (Arc (List ℕ) Global)) (b : Built) (events : List Event) → (run : IsRun script k m) → (empty : m.index ≡ None)
-    → command_at script 0 k ≡ Some (Ddl text) → arc_value b.board ≡ zeros script.vbuckets → publications at ≡ catch_up (high_of script.vbuckets m.store.log) (shown b)
-    → events ≡ created_events script k m run empty (field_name text) at → IsAfter script m.events events
-created script k m text at b events run empty is board published e =
+pub created : (script : Script) (k : ℕ) (m : Machine) (text : List ℕ) (def : IndexDef) (at : Option (Arc (List ℕ) Global)) (b : Built) (events : List Event) → (run : IsRun script k m) → (empty : m.index ≡ None)
+    → command_at script 0 k ≡ Some (Ddl text) → definition_of_text text ≡ Some def → arc_value b.board ≡ zeros script.vbuckets → publications at ≡ catch_up (high_of script.vbuckets m.store.log) (shown b)
+    → events ≡ created_events script k m run empty def at → IsAfter script m.events events
+created script k m text def at b events run empty is reads board published e =
     let n = script.vbuckets in
     let s = state_after n m.events in
-    let field = field_name text in
-    let fresh = fresh_index script k m run empty field at in
-    let first : action script m.events 0 ≡ define 0 k 0 false field ∷ [] =
+    let fresh = fresh_index script k m run empty def at in
+    let first : action script m.events 0 ≡ define 0 k 0 false def ∷ [] =
     first_action script k m (Ddl text) run is
-    ∙ (ap (λ j. define 0 j (length s.indexes) false field ∷ []) run.next ∙ ap (λ (xs : List Index). define 0 k (length xs) false field ∷ []) (was_empty script k m run empty field at)) in
-    let defined = m.events ++ define 0 k 0 false field ∷ [] in
+    ∙ (ap (λ (o : Option IndexDef). option_map_or (λ d. define 0 (s.client 0).next (length s.indexes) false d ∷ []) o []) reads
+    ∙ (ap (λ j. define 0 j (length s.indexes) false def ∷ []) run.next ∙ ap (λ (xs : List Index). define 0 k (length xs) false def ∷ []) (was_empty script k m run empty def at))) in
+    let defined = m.events ++ define 0 k 0 false def ∷ [] in
     let t = state_after n defined in
-    let client : t.client 0 ≡ record (s.client 0) { opened = work (0 ∷ []) (high_of n s.log) } = ap (λ (u : State). u.client 0) (after_definition script k m run empty field at) in
-    let log : t.log ≡ m.store.log = ap (λ (u : State). u.log) (after_definition script k m run empty field at) ∙ sym run.log in
+    let client : t.client 0 ≡ record (s.client 0) { opened = work (0 ∷ []) (high_of n s.log) } = ap (λ (u : State). u.client 0) (after_definition script k m run empty def at) in
+    let log : t.log ≡ m.store.log = ap (λ (u : State). u.log) (after_definition script k m run empty def at) ∙ sym run.log in
     let second : action script defined 0 ≡ publications at ++ online 0 k (0 ∷ []) ∷ [] =
     ap (λ (c : Client). action_by script t 0 c.opened) client
-    ∙ (ap (λ (xs : List Index). caught_up (high_of n t.log) xs ++ online 0 (t.client 0).next (0 ∷ []) ∷ []) (defined_index script k m run empty field at)
+    ∙ (ap (λ (xs : List Index). caught_up (high_of n t.log) xs ++ online 0 (t.client 0).next (0 ∷ []) ∷ []) (defined_index script k m run empty def at)
     ∙ (ap (λ (j : ℕ). caught_up (high_of n t.log) (fresh ∷ []) ++ online 0 j (0 ∷ []) ∷ []) (ap (λ (c : Client). c.next) client ∙ run.next)
     ∙ ap (λ more. more ++ online 0 k (0 ∷ []) ∷ [])
     (append-nil (catch_up (high_of n t.log) fresh)
     ∙ (ap (λ l. catch_up (high_of n l) fresh) log
     ∙ (ap (λ v. if bytes_eq v (high_of n m.store.log) then [] else publish 0 (high_of n m.store.log) ∷ []) (sym board) ∙ sym published))))) in
-    (2, omega arith, e ∙ (append_assoc defined (publications at) (online 0 k (0 ∷ []) ∷ []) ∙ two_actions script m.events (define 0 k 0 false field ∷ []) (publications at ++ online 0 k (0 ∷ []) ∷ []) first second))
+    (2, omega arith, e ∙ (append_assoc defined (publications at) (online 0 k (0 ∷ []) ∷ []) ∙ two_actions script m.events (define 0 k 0 false def ∷ []) (publications at ++ online 0 k (0 ∷ []) ∷ []) first second))
   where
     caught_up : List ℕ → List Index → List Event
     caught_up high xs = flat_map (λ x. if list_any (λ i. x.number == i) (0 ∷ []) then catch_up high x else []) xs

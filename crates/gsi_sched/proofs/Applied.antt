@@ -1,19 +1,29 @@
 -- Mutations applied to the rows of an index, one after another.
-use Rattle.std.proofs.Common.{◌≡◌, ℕ, suc, zero, ◌+◌, ◌<◌, List, [], ◌∷◌, ◌++◌, length, take, fold, Some, None, slice_get, add-one, refl, sym, ap, ◌∙◌, subst, arith}
+use Rattle.std.proofs.Common.{◌≡◌, ℕ, suc, zero, ◌+◌, ◌<◌, List, [], ◌∷◌, ◌++◌, length, take, fold, Option, Some, None, slice_get, add-one, refl, sym, ap, ◌∙◌, subst, arith}
 use Rattle.std.specs.FinMap as map
 use Rattle.n1ql_value.specs.declared.row.Row.{Row}
 use Rattle.n1ql_value.specs.declared.value.Value.{Value}
 use Rattle.vb_store.specs.declared.mutation.Mutation.{Mutation}
 use Rattle.vb_store.specs.Documents.{Documents, with_body, with_mutation, with_mutations}
 use Rattle.index_state.specs.RowsById.{RowsById, with_rows}
-use Rattle.index_state.specs.Keys.{keys_of}
+use Rattle.index_def.specs.declared.definition.IndexDef.{IndexDef}
+use Rattle.index_def.specs.Keys.{keys_of, keys_of_body}
 use Rattle.index_state.specs.Index.{HoldsKeys}
 
-pub put_applied : (field : List ℕ) (docs : Documents) (held new : RowsById) (m : Mutation) (doc : Value) (rows : List Row) → m.body ≡ Some doc → rows ≡ keys_of field m.id doc → new ≡ with_rows held m.id rows
-    → HoldsKeys (keys_of field) (map.insert docs m.id doc) (with_rows held m.id (keys_of field m.id doc)) → HoldsKeys (keys_of field) (with_mutation docs m) new
-put_applied field docs held new m doc rows body keys is holds =
-    subst (λ (ds : Documents). HoldsKeys (keys_of field) ds new) (ap (with_body docs m.id) (sym body))
-    (subst (λ (h : RowsById). HoldsKeys (keys_of field) (map.insert docs m.id doc) h) (sym (is ∙ ap (with_rows held m.id) keys)) holds)
+-- the rows of a mutation in place of those of its id
+put_of_body : (def : IndexDef) (docs : Documents) (held : RowsById) (id : List ℕ) (body : Option Value)
+    → ((doc : Value) → HoldsKeys (keys_of def) (map.insert docs id doc) (with_rows held id (keys_of def id doc)))
+    → HoldsKeys (keys_of def) (map.remove docs id) (map.remove held id)
+    → HoldsKeys (keys_of def) (with_body docs id body) (with_rows held id (keys_of_body def id body))
+put_of_body def docs held id None comes goes = goes
+put_of_body def docs held id (Some doc) comes goes = comes doc
+
+pub put_applied : (def : IndexDef) (docs : Documents) (held new : RowsById) (m : Mutation) (rows : List Row) → rows ≡ keys_of_body def m.id m.body → new ≡ with_rows held m.id rows
+    → ((doc : Value) → HoldsKeys (keys_of def) (map.insert docs m.id doc) (with_rows held m.id (keys_of def m.id doc)))
+    → HoldsKeys (keys_of def) (map.remove docs m.id) (map.remove held m.id)
+    → HoldsKeys (keys_of def) (with_mutation docs m) new
+put_applied def docs held new m rows keys is comes goes =
+    subst (HoldsKeys (keys_of def) (with_mutation docs m)) (sym (is ∙ ap (with_rows held m.id) keys)) (put_of_body def docs held m.id m.body comes goes)
 
 pub fold-push : {A B : Type 0} (f : B → A → B) (b : B) (xs : List A) (x : A) → fold f b (xs ++ x ∷ []) ≡ f (fold f b xs) x
 fold-push f b [] x = refl

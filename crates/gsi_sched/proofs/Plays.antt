@@ -1,7 +1,7 @@
 -- One command after another, and what is left when no command is.
 use Rattle.std.proofs.lemmas.List.{length-append}
 use Rattle.std.proofs.Common.{Result, Ok, Err, OnOk, ◌≡◌, ℕ, suc, zero, ◌≤◌, ◌<◌, ◌^◌, ◌+◌, ◌*◌, Bool, true, false, List, [], ◌∷◌, ◌++◌, length, drop, Option, Some, None, add-one, refl, sym, ap, ◌∙◌, subst, append-nil, arith}
-use Rattle.std.specs.Prelude.{⊤, ◌-◌, is_some, if◌then◌else◌, slice_get, IsSome, codes, map as map_list, option_and_then}
+use Rattle.std.specs.Prelude.{⊤, ◌-◌, is_some, if◌then◌else◌, slice_get, IsSome, map as map_list, option_and_then}
 use Rattle.std.specs.List.{flat_map, AllByRecursion}
 use Rattle.std.specs.Option.{option_map_or}
 use Rattle.std.specs.Arc.{arc_value}
@@ -11,7 +11,7 @@ use Rattle.vb_store.specs.declared.mutation.Mutation.{Mutation}
 use Rattle.vb_store.specs.Mutations.{high_of}
 use Rattle.vb_store.specs.Documents.{documents_at}
 use Rattle.seq_vector.specs.Vectors.{zeros}
-use Rattle.index_state.specs.Index.{index_of}
+use Rattle.index_def.specs.Index.{index_of}
 use Rattle.scan_history.specs.declared.command.Command.{Command}
 use Rattle.scan_history.specs.declared.script.Script.{Script}
 use Rattle.scan_history.specs.declared.done.End.{End}
@@ -109,7 +109,7 @@ unfolding ends_of
 closed_none script k m run none =
     let n = script.vbuckets in
     let s = state_after n m.events in
-    let empty : s.indexes ≡ [] = no_indexes script k m run none [] None m.index s.indexes none run.indexes in
+    let empty : s.indexes ≡ [] = no_indexes n m.store.log m.index s.indexes none run.indexes in
     (sym (append-nil m.events) ∙ ap (λ (xs : List Index). m.events ++ ended s.log xs) (sym empty), ap (λ (xs : List Index). listed s.log xs) (sym empty))
   where
     ended : List Mutation → List Index → List Event
@@ -134,23 +134,23 @@ closed_answers script k m at events run is =
     kept.answers_are ∙ ap (answers_of script) (sym is)
 
 pub closed_ends : (script : Script) (k : ℕ) (m : Machine) (run : IsRun script k m) (b b' : Built) (there : m.index ≡ Some b) (at : Option (Arc (List ℕ) Global)) (events : List Event) (end : End)
-    → events ≡ m.events ++ publications at → b'.field ≡ b.field → arc_value b'.board ≡ board_after at (arc_value b.board) → StandsFor script.vbuckets m.store.log b'
-    → end ≡ record { i = 0; name = codes "ix"; online = true; vector = arc_value b'.board; rows = length b'.snapshot } → end ∷ [] ≡ ends_of script events
+    → events ≡ m.events ++ publications at → arc_value b'.def ≡ arc_value b.def → arc_value b'.board ≡ board_after at (arc_value b.board) → StandsFor script.vbuckets m.store.log b'
+    → end ≡ record { i = 0; name = (arc_value b'.def).name; online = true; vector = arc_value b'.board; rows = length b'.snapshot } → end ∷ [] ≡ ends_of script events
 unfolding ends_of
-closed_ends script k m run b b' there at events end is field board stands e =
+closed_ends script k m run b b' there at events end is def board stands e =
     let n = script.vbuckets in
     let kept = kept_published script m.store.log m.answers m.events at (kept_of script k m run) in
     let after = state_published n m.events at (shown b) (has_index script k m run b there).0 refl in
     let shows : (state_after n events).indexes ≡ shown b' ∷ [] =
     ap (λ es. (state_after n es).indexes) is ∙ (after.0
-    ∙ (ap (λ v. (let x : Index = record { number = 0; field = b.field; online = true; board = v } in x) ∷ []) (sym board)
-    ∙ ap (λ f. (let x : Index = record { number = 0; field = f; online = true; board = arc_value b'.board } in x) ∷ []) (sym field))) in
+    ∙ (ap (λ v. (let x : Index = record { number = 0; def = arc_value b.def; online = true; board = v } in x) ∷ []) (sym board)
+    ∙ ap (λ f. (let x : Index = record { number = 0; def = f; online = true; board = arc_value b'.board } in x) ∷ []) (sym def))) in
     let log : m.store.log ≡ (state_after n events).log = kept.log_is ∙ ap (λ es. (state_after n es).log) (sym is) in
-    ap (λ (x : End). x ∷ []) (e ∙ ap (λ rows. ended (arc_value b'.board) (length rows)) (stands.snapshot ∙ ap (λ l. index_of b'.field (documents_at l (arc_value b'.board))) log))
+    ap (λ (x : End). x ∷ []) (e ∙ ap (λ rows. ended (arc_value b'.board) (length rows)) (stands.snapshot ∙ ap (λ l. index_of (arc_value b'.def) (documents_at l (arc_value b'.board))) log))
     ∙ ap (λ (xs : List Index). map_list (end_of (state_after n events).log) xs) (sym shows)
   where
     ended : List ℕ → ℕ → End
-    ended v rows = record { i = 0; name = codes "ix"; online = true; vector = v; rows = rows }
+    ended v rows = record { i = 0; name = (arc_value b'.def).name; online = true; vector = v; rows = rows }
 
 -- ---- the beginning
 

@@ -3,6 +3,7 @@ use Rattle.std.proofs.Common.{◌≡◌, ◌==◌, Bool, true, false, ℕ, max, 
 use Rattle.std.proofs.lemmas.List.{length-append, take-append-le}
 use Rattle.std.specs.Arc.{arc_value}
 use Rattle.std.specs.List.{AllByRecursion}
+use Rattle.std.specs.Prelude.{Result, Ok, Err, IfOk}
 use Rattle.std.specs.Prelude.{map as map_list, if◌then◌else◌}
 use Rattle.std.specs.FinMap as map
 use Rattle.seq_vector.specs.Vectors.{entry, IsCovered, join, zeros, pointwise}
@@ -10,16 +11,19 @@ use Rattle.vb_store.specs.declared.mutation.Mutation.{Mutation}
 use Rattle.vb_store.specs.Mutations.{high_of}
 use Rattle.vb_store.specs.Accepted.{Accepted}
 use Rattle.vb_store.specs.Documents.{with_mutations, documents_at}
-use Rattle.index_state.specs.Keys.{keys_of}
+use Rattle.index_def.specs.declared.definition.IndexDef.{IndexDef}
+use Rattle.index_def.specs.Forms.{IsFormed}
+use Rattle.index_def.specs.Keys.{keys_of}
 use Rattle.index_state.specs.RowsById.{RowsById, all_rows}
-use Rattle.index_state.specs.Index.{index_of, scan_of, HoldsKeys}
+use Rattle.index_def.specs.Index.{index_of}
+use Rattle.index_state.specs.Index.{HoldsKeys}
 use Rattle.std.specs.declared.sync.Arc.{Arc}
 use Rattle.std.specs.declared.alloc.Global.{Global}
 use Rattle.scan_history.specs.declared.script.Script.{Script}
 use Rattle.scan_history.specs.Events.{Event, mutate, define, publish, online, start, answer}
 use Rattle.scan_history.specs.Fold.{published, gone_online, closed, own_step, Client, Opened, started, Index, State, log_step, step, state_after}
 use Rattle.scan_history.specs.declared.done.Answered.{Answered}
-use Rattle.scan_history.specs.Answers.{command_at, spans_of, field_of, field_in, started_field, answer_at, answers_of}
+use Rattle.scan_history.specs.Answers.{command_at, spans_of, definition_of, definition_in, started_definition, scan_under, answer_at, answers_of}
 use Rattle.scan_history.specs.RowTexts.{rows_text}
 use Rattle.scan_history.specs.declared.command.Command.TheVariants.{Scan}
 use Rattle.n1ql_value.specs.declared.range.Range.{Range}
@@ -74,7 +78,7 @@ module _ (n : ℕ) (log : List Mutation) (x : Mutation) (sized : length (high_of
 
   event_reached_on : (e : Event) → IsReached n log e → IsReached n (log ++ x ∷ []) e
   event_reached_on (mutate c k what) r = tt
-  event_reached_on (define c k i deferred field) r = tt
+  event_reached_on (define c k i deferred def) r = tt
   event_reached_on (publish i at) r = tt
   event_reached_on (online c k indexes) r = tt
   event_reached_on (start c k i demand) r = tt
@@ -87,9 +91,10 @@ module _ (n : ℕ) (log : List Mutation) (x : Mutation) (sized : length (high_of
   module _ (growth : (v : List ℕ) → IsReachedAt n log v → documents_at (log ++ x ∷ []) v ≡ documents_at log v) where
     pub stands_on : (b : Built) → StandsFor n log b → StandsFor n (log ++ x ∷ []) b
     stands_on b s = record {
+      formed = s.formed;
       applied = let h = s.applied in omega (arith, length-append log (x ∷ []));
-      rows = subst (λ (front : List Mutation). HoldsKeys (keys_of b.field) (with_mutations map.empty front) b.state) (sym (take-append-le b.applied log (x ∷ []) s.applied)) s.rows;
-      snapshot = s.snapshot ∙ ap (index_of b.field) (sym (growth (arc_value b.board) s.reached));
+      rows = subst (λ (front : List Mutation). HoldsKeys (keys_of (arc_value b.def)) (with_mutations map.empty front) b.state) (sym (take-append-le b.applied log (x ∷ []) s.applied)) s.rows;
+      snapshot = s.snapshot ∙ ap (index_of (arc_value b.def)) (sym (growth (arc_value b.board) s.reached));
       reached = reached_on (arc_value b.board) s.reached;
     }
 
@@ -126,16 +131,26 @@ run_mutated script k m m' x run sized grows growth vbuckets log index seen answe
     })
 
 -- the rows, the snapshot and the board of an index to which nothing was applied yet
-pub stands_new : (n : ℕ) (log : List Mutation) (b : Built) → b.applied ≡ 0 → b.state ≡ map.empty → b.snapshot ≡ all_rows map.empty → arc_value b.board ≡ zeros n
-    → HoldsKeys (keys_of b.field) map.empty map.empty → all_rows map.empty ≡ index_of b.field map.empty → high_of n [] ≡ zeros n → length (high_of n []) ≡ n
+pub stands_new : (n : ℕ) (log : List Mutation) (b : Built) → IsFormed (arc_value b.def) → b.applied ≡ 0 → b.state ≡ map.empty → b.snapshot ≡ all_rows map.empty → arc_value b.board ≡ zeros n
+    → HoldsKeys (keys_of (arc_value b.def)) map.empty map.empty → all_rows map.empty ≡ index_of (arc_value b.def) map.empty → high_of n [] ≡ zeros n → length (high_of n []) ≡ n
     → IsCovered (high_of n []) (high_of n log) → documents_at log (zeros n) ≡ documents_at [] (zeros n) → StandsFor n log b
 unfolding documents_at
-stands_new n log b applied state snapshot board no_rows fresh none sized grows growth = record {
+stands_new n log b formed applied state snapshot board no_rows fresh none sized grows growth = record {
+  formed = formed;
   applied = omega arith;
-  rows = subst (λ (i : ℕ). HoldsKeys (keys_of b.field) (with_mutations map.empty (take i log)) b.state) (sym applied) (subst (λ (r : RowsById). HoldsKeys (keys_of b.field) map.empty r) (sym state) no_rows);
-  snapshot = snapshot ∙ (fresh ∙ ap (index_of b.field) (sym (ap (documents_at log) board ∙ growth)));
+  rows = subst (λ (i : ℕ). HoldsKeys (keys_of (arc_value b.def)) (with_mutations map.empty (take i log)) b.state) (sym applied) (subst (λ (r : RowsById). HoldsKeys (keys_of (arc_value b.def)) map.empty r) (sym state) no_rows);
+  snapshot = snapshot ∙ (fresh ∙ ap (index_of (arc_value b.def)) (sym (ap (documents_at log) board ∙ growth)));
   reached = subst (IsReachedAt n log) (none ∙ sym board) (record { size = sized; covered = grows });
 }
+
+pub stands_fresh : {E : Type 0} (n : ℕ) (log : List Mutation) (r : Result Built E)
+    → IfOk r (λ b. IsFormed (arc_value b.def)) → IfOk r (λ b. b.applied ≡ 0) → IfOk r (λ b. b.state ≡ map.empty) → IfOk r (λ b. b.snapshot ≡ all_rows map.empty) → IfOk r (λ b. arc_value b.board ≡ zeros n)
+    → ((d : IndexDef) → HoldsKeys (keys_of d) map.empty map.empty) → ((d : IndexDef) → all_rows map.empty ≡ index_of d map.empty)
+    → high_of n [] ≡ zeros n → length (high_of n []) ≡ n → IsCovered (high_of n []) (high_of n log) → documents_at log (zeros n) ≡ documents_at [] (zeros n)
+    → IfOk r (λ b. StandsFor n log b)
+stands_fresh n log (Err e) formed applied state snapshot board no_rows fresh none sized grows growth = tt
+stands_fresh n log (Ok b) formed applied state snapshot board no_rows fresh none sized grows growth =
+    stands_new n log b formed applied state snapshot board (no_rows (arc_value b.def)) (fresh (arc_value b.def)) none sized grows growth
 
 -- a publication leaves the clients as they are, and moves the board of the one index
 pub state_published : (n : ℕ) (events : List Event) (at : Option (Arc (List ℕ) Global)) (x : Index) → (state_after n events).indexes ≡ x ∷ [] → x.number ≡ 0
@@ -149,19 +164,23 @@ state_published n events (Some at) x is number = (
 
 -- ---- the creation of the index
 
-abbrev online_index : List ℕ → List ℕ → Index
-online_index field board = record { number = 0; field = field; online = true; board = board }
+abbrev online_index : IndexDef → List ℕ → Index
+online_index def board = record { number = 0; def = def; online = true; board = board }
 
-same_index : (f g u v : List ℕ) → f ≡ g → u ≡ v → online_index f u ∷ [] ≡ online_index g v ∷ []
-same_index f g u v field board = ap (λ (h : List ℕ). online_index h u ∷ []) field ∙ ap (λ (w : List ℕ). online_index g w ∷ []) board
+same_index : (f g : IndexDef) (u v : List ℕ) → f ≡ g → u ≡ v → online_index f u ∷ [] ≡ online_index g v ∷ []
+same_index f g u v def board = ap (λ (h : IndexDef). online_index h u ∷ []) def ∙ ap (λ (w : List ℕ). online_index g w ∷ []) board
 
-module _ (script : Script) (k : ℕ) (m : Machine) (run : IsRun script k m) (empty : m.index ≡ None) (field : List ℕ) (at : Option (Arc (List ℕ) Global)) where
+pub no_indexes : (n : ℕ) (log : List Mutation) (o : Option Built) (xs : List Index) → o ≡ None → HoldsIndexes n log o xs → xs ≡ []
+no_indexes n log None xs e h = h
+no_indexes n log (Some b) xs e h = absurd (cc)
+
+module _ (script : Script) (k : ℕ) (m : Machine) (run : IsRun script k m) (empty : m.index ≡ None) (def : IndexDef) (at : Option (Arc (List ℕ) Global)) where
   abbrev n : ℕ
   n = script.vbuckets
 
   -- the history with the definition, with the publication, and with the index online
   abbrev pub defined_events : List Event
-  defined_events = m.events ++ define 0 k 0 false field ∷ []
+  defined_events = m.events ++ define 0 k 0 false def ∷ []
 
   abbrev pub published_events : List Event
   published_events = defined_events ++ publications at
@@ -170,17 +189,13 @@ module _ (script : Script) (k : ℕ) (m : Machine) (run : IsRun script k m) (emp
   created_events = published_events ++ online 0 k (0 ∷ []) ∷ []
 
   abbrev pub fresh_index : Index
-  fresh_index = record { number = 0; field = field; online = false; board = zeros n }
-
-  pub no_indexes : (o : Option Built) (xs : List Index) → o ≡ None → HoldsIndexes n m.store.log o xs → xs ≡ []
-  no_indexes None xs e h = h
-  no_indexes (Some b) xs e h = absurd (cc)
+  fresh_index = record { number = 0; def = def; online = false; board = zeros n }
 
   pub was_empty : (state_after n m.events).indexes ≡ []
-  was_empty = no_indexes m.index (state_after n m.events).indexes empty run.indexes
+  was_empty = no_indexes n m.store.log m.index (state_after n m.events).indexes empty run.indexes
 
-  pub after_definition : state_after n defined_events ≡ step n (state_after n m.events) (define 0 k 0 false field)
-  after_definition = state_after-push n m.events (define 0 k 0 false field)
+  pub after_definition : state_after n defined_events ≡ step n (state_after n m.events) (define 0 k 0 false def)
+  after_definition = state_after-push n m.events (define 0 k 0 false def)
 
   pub defined_index : (state_after n defined_events).indexes ≡ fresh_index ∷ []
   defined_index = ap (λ (s : State). s.indexes) after_definition ∙ ap (λ (xs : List Index). xs ++ fresh_index ∷ []) was_empty
@@ -191,7 +206,7 @@ module _ (script : Script) (k : ℕ) (m : Machine) (run : IsRun script k m) (emp
   after_online : state_after n created_events ≡ step n (state_after n published_events) (online 0 k (0 ∷ []))
   after_online = state_after-push n published_events (online 0 k (0 ∷ []))
 
-  created_index : (state_after n created_events).indexes ≡ record { number = 0; field = field; online = true; board = board_after at (zeros n) } ∷ []
+  created_index : (state_after n created_events).indexes ≡ record { number = 0; def = def; online = true; board = board_after at (zeros n) } ∷ []
   created_index = ap (λ (s : State). s.indexes) after_online ∙ ap (map_list (gone_online (0 ∷ []))) published_state.0
 
   created_client : (state_after n created_events).client 0 ≡ closed ((state_after n m.events).client 0)
@@ -203,11 +218,11 @@ module _ (script : Script) (k : ℕ) (m : Machine) (run : IsRun script k m) (emp
   kept_created =
       kept_quiet script m.store.log m.answers published_events (online 0 k (0 ∷ []))
       (kept_published script m.store.log m.answers defined_events at
-      (kept_quiet script m.store.log m.answers m.events (define 0 k 0 false field) (kept_of script k m run) refl tt refl)) refl tt refl
+      (kept_quiet script m.store.log m.answers m.events (define 0 k 0 false def) (kept_of script k m run) refl tt refl)) refl tt refl
 
-  pub run_created : (m' : Machine) (b : Built) → m'.store ≡ m.store → m'.index ≡ Some b → m'.seen ≡ m.seen → m'.answers ≡ m.answers → m'.events ≡ created_events → b.field ≡ field
+  pub run_created : (m' : Machine) (b : Built) → m'.store ≡ m.store → m'.index ≡ Some b → m'.seen ≡ m.seen → m'.answers ≡ m.answers → m'.events ≡ created_events → arc_value b.def ≡ def
       → arc_value b.board ≡ board_after at (zeros n) → StandsFor n m.store.log b → IsRun script (k + 1) m'
-  run_created m' b store index seen answers events field_is board stands =
+  run_created m' b store index seen answers events def_is board stands =
       subst (λ (es : List Event). IsRunAt script (k + 1) m' (state_after n es)) (sym events) (record {
         vbuckets = ap (λ (a : Accepted). a.vbuckets) store ∙ run.vbuckets;
         log = ap (λ (a : Accepted). a.log) store ∙ kept_created.log_is;
@@ -217,7 +232,7 @@ module _ (script : Script) (k : ℕ) (m : Machine) (run : IsRun script k m) (emp
         size = ap length seen ∙ run.size;
         indexes = subst (λ (l : List Mutation). HoldsIndexes n l m'.index (state_after n created_events).indexes) (sym (ap (λ (a : Accepted). a.log) store))
             (subst (λ (o : Option Built). HoldsIndexes n m.store.log o (state_after n created_events).indexes) (sym index)
-            (created_index ∙ same_index field b.field (board_after at (zeros n)) (arc_value b.board) (sym field_is) (sym board), stands));
+            (created_index ∙ same_index def (arc_value b.def) (board_after at (zeros n)) (arc_value b.board) (sym def_is) (sym board), stands));
         answers = answers ∙ (kept_created.answers_are ∙ ap (answers_of script) (sym events));
         reached = subst (λ (es : List Event). AllByRecursion (IsReached n m'.store.log) es) (sym events)
             (subst (λ (l : List Mutation). AllByRecursion (IsReached n l) created_events) (sym (ap (λ (a : Accepted). a.log) store)) kept_created.reached);
@@ -270,20 +285,20 @@ module _ (script : Script) (k : ℕ) (m : Machine) (run : IsRun script k m) (b :
   answered_indexes : (state_after vbs answered_events).indexes ≡ shown b ∷ []
   answered_indexes = ap (λ (s : State). s.indexes) after_answer ∙ start_indexes
 
-  -- the field of the index that the scan began on
-  scanned_field : started_field (state_after vbs demand_events) 0 ≡ b.field
-  scanned_field =
-      ap (λ (o : Opened). field_in (state_after vbs demand_events) o) (ap (λ (c : Client). c.opened) start_client)
-      ∙ ap (field_of 0) start_indexes
+  -- the definition of the index that the scan began on
+  scanned_definition : started_definition (state_after vbs demand_events) 0 ≡ Some (arc_value b.def)
+  scanned_definition =
+      ap (λ (o : Opened). definition_in (state_after vbs demand_events) o) (ap (λ (c : Client). c.opened) start_client)
+      ∙ ap (definition_of 0) start_indexes
 
   kept_started : Kept script m.store.log m.answers demand_events
   kept_started = kept_quiet script m.store.log m.answers m.events (start 0 k 0 m.seen) (kept_of script k m run) refl tt refl
 
   pub given_text : (index : List ℕ) (spans : List (List Range)) → command_at script 0 k ≡ Some (Scan index spans)
-      → rows_text (scan_of (started_field (state_after vbs demand_events) 0) (spans_of (command_at script 0 k)) (documents_at m.store.log board)) ≡ rows_text (range_of spans b.snapshot)
+      → rows_text (scan_under (started_definition (state_after vbs demand_events) 0) (spans_of (command_at script 0 k)) (documents_at m.store.log board)) ≡ rows_text (range_of spans b.snapshot)
   given_text index spans command =
-      ap (λ f. rows_text (scan_of f (spans_of (command_at script 0 k)) (documents_at m.store.log board))) scanned_field
-      ∙ (ap (λ o. rows_text (scan_of b.field (spans_of o) (documents_at m.store.log board))) command
+      ap (λ d. rows_text (scan_under d (spans_of (command_at script 0 k)) (documents_at m.store.log board))) scanned_definition
+      ∙ (ap (λ o. rows_text (scan_under (Some (arc_value b.def)) (spans_of o) (documents_at m.store.log board))) command
       ∙ ap (λ rows. rows_text (range_of spans rows)) (sym has_index.1.snapshot))
 
   pub run_scanned : (m' : Machine) (index : List ℕ) (spans : List (List Range)) → command_at script 0 k ≡ Some (Scan index spans) → m'.store ≡ m.store → m'.index ≡ m.index → m'.seen ≡ join m.seen board

@@ -7,7 +7,7 @@ use Rattle.vb_store.specs.Mutations.{high_of, next_of}
 use Rattle.scan_history.specs.declared.command.Command.{Command}
 use Rattle.scan_history.specs.declared.command.Command.TheVariants.{Upsert, Delete, Ddl, Scan}
 use Rattle.scan_history.specs.declared.script.Script.{Script}
-use Rattle.scan_history.specs.Ddl.{field_name}
+use Rattle.scan_history.specs.Ddl.{definition_of_text}
 use Rattle.scan_history.specs.Events.{Event, mutate, define, publish, online, start, answer}
 use Rattle.scan_history.specs.Fold.{Opened, nothing, work, started, Index, State, state_after}
 use Rattle.scan_history.specs.Answers.{command_at}
@@ -31,7 +31,8 @@ board_of i (x ∷ xs) = if x.number == i then x.board else board_of i xs
 abbrev pub opening : ℕ → State → ℕ → Command → List Event
 opening n s c (Upsert id doc) = mutate c (s.client c).next (next_of n s.log id (Some doc)) ∷ []
 opening n s c (Delete id) = mutate c (s.client c).next (next_of n s.log id None) ∷ []
-opening n s c (Ddl text) = define c (s.client c).next (length s.indexes) false (field_name text) ∷ []
+opening n s c (Ddl text) =
+    option_map_or (λ def. define c (s.client c).next (length s.indexes) false def ∷ []) (definition_of_text text) []
 opening n s c (Scan index spans) = start c (s.client c).next (scanned s.indexes) (s.client c).seen ∷ []
 
 -- what closes a command that is open: the creation of indexes catches them up and goes online, and a scan is answered

@@ -9,8 +9,10 @@ use Rattle.seq_vector.specs.Vectors.{IsCovered}
 use Rattle.vb_store.specs.declared.mutation.Mutation.{Mutation}
 use Rattle.vb_store.specs.Mutations.{high_of}
 use Rattle.vb_store.specs.Documents.{with_mutations, documents_at}
-use Rattle.index_state.specs.Keys.{keys_of}
-use Rattle.index_state.specs.Index.{index_of, HoldsKeys}
+use Rattle.index_def.specs.Forms.{IsFormed}
+use Rattle.index_def.specs.Keys.{keys_of}
+use Rattle.index_def.specs.Index.{index_of}
+use Rattle.index_state.specs.Index.{HoldsKeys}
 use Rattle.scan_history.specs.declared.script.Script.{Script}
 use Rattle.scan_history.specs.Events.{Event, mutate, define, publish, online, start, answer}
 use Rattle.scan_history.specs.Fold.{nothing, Index, State, state_after}
@@ -28,14 +30,15 @@ pub record IsReachedAt (n : ℕ) (log : List Mutation) (v : List ℕ) : Type 0 w
 -- an index stands for the mutations: its rows are those of the documents after the mutations that it applied, and its
 -- snapshot is the index of the documents at its board
 pub record StandsFor (n : ℕ) (log : List Mutation) (b : Built) : Type 0 where
+  pub formed : IsFormed (arc_value b.def)
   pub applied : b.applied ≤ length log
-  pub rows : HoldsKeys (keys_of b.field) (with_mutations map.empty (take b.applied log)) b.state
-  pub snapshot : b.snapshot ≡ index_of b.field (documents_at log (arc_value b.board))
+  pub rows : HoldsKeys (keys_of (arc_value b.def)) (with_mutations map.empty (take b.applied log)) b.state
+  pub snapshot : b.snapshot ≡ index_of (arc_value b.def) (documents_at log (arc_value b.board))
   pub reached : IsReachedAt n log (arc_value b.board)
 
 -- the index as a history shows it, once it is online
 abbrev pub shown : Built → Index
-shown b = record { number = 0; field = b.field; online = true; board = arc_value b.board }
+shown b = record { number = 0; def = arc_value b.def; online = true; board = arc_value b.board }
 
 abbrev pub HoldsIndexes : ℕ → List Mutation → Option Built → List Index → Type 0
 HoldsIndexes n log None xs = xs ≡ []
@@ -44,7 +47,7 @@ HoldsIndexes n log (Some b) xs = (xs ≡ shown b ∷ []) × StandsFor n log b
 -- an answer was given at a vector that the newest numbers cover
 abbrev pub IsReached : ℕ → List Mutation → Event → Type 0
 IsReached n log (mutate c k what) = ⊤
-IsReached n log (define c k i deferred field) = ⊤
+IsReached n log (define c k i deferred def) = ⊤
 IsReached n log (publish i at) = ⊤
 IsReached n log (online c k indexes) = ⊤
 IsReached n log (start c k i demand) = ⊤

@@ -5,14 +5,17 @@ ghost use Rattle.seq_vector.specs.Vectors.{zeros};
 ghost use Rattle.vb_store.specs.Mutations.{high_of};
 ghost use Rattle.vb_store.specs.Documents.{with_mutation, with_mutations};
 ghost use Rattle.index_state.specs.RowsById.{all_rows};
-ghost use Rattle.index_state.specs.Keys.{keys_of};
+ghost use Rattle.index_def.specs.Forms.{IsFormed};
+ghost use Rattle.index_def.specs.Keys.{keys_of};
 ghost use Rattle.index_state.specs.Index.{Documents, HoldsKeys};
 ghost use Rattle.gsi_sched.specs.Replay.{catch_up};
 ghost use Rattle.gsi_sched.specs.Run.{StandsFor, shown, publications, board_after};
 
-use index_state::{IndexState, a_document_comes, a_document_goes, keys_of, rows_are_the_index};
+use index_def::IndexDef;
+use index_state::{IndexState, a_document_comes, a_document_goes, rows_are_the_index};
 use index_tree::Frozen;
-use n1ql_value::{Memory, Text};
+use key_eval::keys_of;
+use n1ql_value::Memory;
 use seq_vector::{Vector, zero};
 use std::alloc::Global;
 use std::sync::Arc;
@@ -22,7 +25,7 @@ use vb_store::{Mutation, VbStore};
 /// An index: how far it has come in the mutations, its rows there, and its newest publication.
 #[derive(Drop)]
 pub(crate) struct Built {
-    pub(crate) field: Text,
+    pub(crate) def: Arc<IndexDef>,
     /// How many of the mutations were applied, in order of acceptance.
     pub(crate) applied: usize,
     pub(crate) state: IndexState,
@@ -33,10 +36,12 @@ pub(crate) struct Built {
 }
 
 impl Built {
-    /// An index on a field, with nothing applied and nothing published.
-    pub(crate) fn new(alloc: Global, field: Text, vbuckets: u32) -> Result<Built, Memory>
-        requires { (0 < vbuckets) × (vbuckets ≤ 1024) }
-        ensures of { IfOk result (λ b. b.field ≡ field) }
+    /// An index of a definition, with nothing applied and nothing published.
+    pub(crate) fn new(alloc: Global, def: Arc<IndexDef>, vbuckets: u32) -> Result<Built, Memory>
+        requires formed { IsFormed (arc_value def) }
+        requires count { (0 < vbuckets) × (vbuckets ≤ 1024) }
+        ensures formed { IfOk result (λ b. IsFormed (arc_value b.def)) }
+        ensures of { IfOk result (λ b. arc_value b.def ≡ arc_value def) }
         ensures applied { IfOk result (λ b. b.applied ≡ 0) }
         ensures rows { IfOk result (λ b. b.state ≡ map.empty) }
         ensures snapshot { IfOk result (λ b. b.snapshot ≡ all_rows map.empty) }
@@ -46,7 +51,7 @@ impl Built {
         let snapshot = state.freeze(alloc)?;
         let board = Arc::new(alloc, zero(alloc, vbuckets)?)?;
         Ok(Built {
-            field,
+            def,
             applied: 0,
             state,
             board,
@@ -58,40 +63,35 @@ impl Built {
 /// Applies one mutation to the rows of an index.
 fn apply(
     alloc: Global,
-    field: &Text,
+    def: &IndexDef,
     state: &mut IndexState,
     mutation: &Mutation,
 ) -> Result<(), Memory>
-    ensures { OnOk result ((docs : Documents) → HoldsKeys (keys_of field.now) docs state.old
-        → HoldsKeys (keys_of field.now) (with_mutation docs mutation.now) state.new) }
+    requires formed { IsFormed def.now }
+    ensures { OnOk result ((docs : Documents) → HoldsKeys (keys_of def.now) docs state.old
+        → HoldsKeys (keys_of def.now) (with_mutation docs mutation.now) state.new) }
 {
-    match &mutation.body {
-        None => {
-            a_document_goes();
-            state.drop_id(&mutation.id)
-        }
-        Some(doc) => {
-            a_document_comes();
-            let rows = keys_of(alloc, field, &mutation.id, doc)?;
-            state.put(&mutation.id, rows)
-        }
-    }
+    a_document_comes();
+    a_document_goes();
+    let rows = keys_of(alloc, def, mutation)?;
+    state.put(&mutation.id, rows)
 }
 
 /// Applies the mutation at a place.
 fn apply_at(
     alloc: Global,
-    field: &Text,
+    def: &IndexDef,
     state: &mut IndexState,
     store: &VbStore,
     at: usize,
 ) -> Result<(), Memory>
+    requires formed { IsFormed def.now }
     requires within { at < length store.now.log }
-    requires stands { HoldsKeys (keys_of field.now) (with_mutations map.empty (take at store.now.log)) state.old }
-    ensures { OnOk result (HoldsKeys (keys_of field.now) (with_mutations map.empty (take (at + 1) store.now.log)) state.new) }
+    requires stands { HoldsKeys (keys_of def.now) (with_mutations map.empty (take at store.now.log)) state.old }
+    ensures { OnOk result (HoldsKeys (keys_of def.now) (with_mutations map.empty (take (at + 1) store.now.log)) state.new) }
 {
     match store.get(at) {
-        Some(mutation) => apply(alloc, field, state, mutation),
+        Some(mutation) => apply(alloc, def, state, mutation),
         None => unreachable!(),
     }
 }
@@ -99,17 +99,18 @@ fn apply_at(
 /// Applies the mutations from a place on.
 fn apply_from(
     alloc: Global,
-    field: &Text,
+    def: &IndexDef,
     state: &mut IndexState,
     store: &VbStore,
     from: usize,
 ) -> Result<(), Memory>
+    requires formed { IsFormed def.now }
     requires within { from ≤ length store.now.log }
-    requires stands { HoldsKeys (keys_of field.now) (with_mutations map.empty (take from store.now.log)) state.old }
-    ensures { OnOk result (HoldsKeys (keys_of field.now) (with_mutations map.empty store.now.log) state.new) }
+    requires stands { HoldsKeys (keys_of def.now) (with_mutations map.empty (take from store.now.log)) state.old }
+    ensures { OnOk result (HoldsKeys (keys_of def.now) (with_mutations map.empty store.now.log) state.new) }
 {
     for at in from..store.len() {
-        apply_at(alloc, field, state, store, at)?;
+        apply_at(alloc, def, state, store, at)?;
     }
     Ok(())
 }
@@ -131,7 +132,7 @@ pub(crate) fn catch_up(
 ) -> Result<Option<Arc<Vector>>, Memory>
     requires { StandsFor store.now.vbuckets store.now.log built.old }
     ensures stands { OnOk result (StandsFor store.now.vbuckets store.now.log built.new) }
-    ensures field { OnOk result (built.new.field ≡ built.old.field) }
+    ensures def { OnOk result (arc_value built.new.def ≡ arc_value built.old.def) }
     ensures newest { OnOk result (arc_value built.new.board ≡ high_of store.now.vbuckets store.now.log) }
     ensures published { IfOk result (λ at. publications at
         ≡ catch_up (high_of store.now.vbuckets store.now.log) (shown built.old)) }
@@ -141,7 +142,7 @@ pub(crate) fn catch_up(
     high_counts();
     newest_documents();
     rows_are_the_index();
-    apply_from(alloc, &built.field, &mut built.state, store, built.applied)?;
+    apply_from(alloc, &built.def, &mut built.state, store, built.applied)?;
     built.applied = store.len();
     if is_same(&built.board, store.high()) {
         return Ok(None);

@@ -1,4 +1,4 @@
-ghost use Rattle.std.specs.Prelude.{◌≡◌, ◌++◌, length, true, codes, IfOk, OnOk};
+ghost use Rattle.std.specs.Prelude.{◌≡◌, ◌++◌, length, true, IfOk, OnOk};
 ghost use Rattle.std.specs.Arc.{arc_value};
 ghost use Rattle.scan_history.specs.declared.done.End.{End as an_end};
 ghost use Rattle.scan_history.specs.Fold.{state_after};
@@ -8,17 +8,17 @@ ghost use Rattle.gsi_sched.specs.Run.{IsPlayed};
 
 use crate::built::{Built, catch_up};
 use crate::machine::{Machine, push_publication};
-use n1ql_value::{Memory, Text};
+use n1ql_value::Memory;
 use scan_history::{End, EndList, Script};
 use std::alloc::Global;
 
 /// How the index ended.
 fn end_of(alloc: Global, built: &Built) -> Result<End, Memory>
-    ensures { IfOk result (λ end. end ≡ (record { i = 0; name = codes "ix"; online = true; vector = arc_value built.now.board; rows = length built.now.snapshot })) }
+    ensures { IfOk result (λ end. end ≡ (record { i = 0; name = (arc_value built.now.def).name; online = true; vector = arc_value built.now.board; rows = length built.now.snapshot })) }
 {
     Ok(End {
         i: 0,
-        name: Text::of(alloc, "ix")?,
+        name: built.def.name.copy(alloc)?,
         online: true,
         vector: built.board.copy(alloc)?,
         rows: built.snapshot.len(),

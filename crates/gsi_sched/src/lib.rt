@@ -8,6 +8,7 @@ mod client;
 mod ends;
 mod machine;
 mod rows_text;
+mod statement;
 mod whole;
 
 pub use whole::replay;

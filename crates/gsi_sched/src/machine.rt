@@ -1,6 +1,7 @@
 ghost use Rattle.std.specs.Prelude.{◌≡◌, ◌<◌, ◌≤◌, ◌+◌, ◌++◌, ◌∷◌, [], length, Option, Some, None, IsNone, IsSome, IfOk, OnOk};
 ghost use Rattle.vb_store.specs.Mutations.{next_of};
-ghost use Rattle.scan_history.specs.Ddl.{defined_field, field_name};
+ghost use Rattle.index_def.specs.Forms.{IsFormed};
+ghost use Rattle.scan_history.specs.Ddl.{defined_field};
 ghost use Rattle.scan_history.specs.Answers.{command_at};
 ghost use Rattle.scan_history.specs.Events.{mutate as mutate_event, online as online_event};
 ghost use Rattle.scan_history.specs.declared.command.Command.TheVariants as command;
@@ -12,9 +13,11 @@ ghost use Rattle.gsi_sched.specs.Run.{IsRun, IsAfter, StandsFor, publications};
 
 use crate::built::{Built, catch_up};
 use crate::rows_text::rows_text;
+use crate::statement::definition;
+use index_def::IndexDef;
 use index_state::{nothing_is_the_index_of_nothing, rows_are_the_index};
 use n1ql_value::{ListOf, Memory, Spans, Text, Value};
-use scan_history::{AnswerList, Answered, Event, Events, Happened, Numbers, Script, defined_field};
+use scan_history::{AnswerList, Answered, Event, Events, Happened, Numbers, Script};
 use seq_vector::Vector;
 use std::alloc::Global;
 use std::sync::Arc;
@@ -89,20 +92,10 @@ pub(crate) fn delete(
     mutate(script, machine, k, id.copy(alloc)?, None)
 }
 
-/// The name of the field that the text defines the index on.
-fn field_of(alloc: Global, text: &Text) -> Result<Text, Memory>
-    ensures { IfOk result (λ name. name ≡ field_name text.now) }
-{
-    let mut name = String::new(alloc);
-    if let Some(letter) = defined_field(text.as_str()) {
-        name.push(char::from(letter))?;
-    }
-    Text::of(alloc, name.as_str())
-}
-
-/// An index on a field, before any of the mutations.
-fn define(alloc: Global, field: Text, store: &VbStore) -> Result<Built, Memory>
-    ensures of { IfOk result (λ b. b.field ≡ field) }
+/// An index of a definition, before any of the mutations.
+fn define(alloc: Global, def: Arc<IndexDef>, store: &VbStore) -> Result<Built, Memory>
+    requires formed { IsFormed (arc_value def) }
+    ensures of { IfOk result (λ b. arc_value b.def ≡ arc_value def) }
     ensures board { IfOk result (λ b. arc_value b.board ≡ zeros store.now.vbuckets) }
     ensures stands { IfOk result (λ b. StandsFor store.now.vbuckets store.now.log b) }
 {
@@ -111,7 +104,7 @@ fn define(alloc: Global, field: Text, store: &VbStore) -> Result<Built, Memory>
     high_counts();
     nothing_is_the_index_of_nothing();
     rows_are_the_index();
-    Built::new(alloc, field, store.vbuckets())
+    Built::new(alloc, def, store.vbuckets())
 }
 
 /// Adds the publication at a vector, where there is one.
@@ -142,21 +135,22 @@ pub(crate) fn create(
     text: &Text,
 ) -> Result<(), Memory>
     requires command { command_at script.now 0 k ≡ Some (command.Ddl text.now) }
+    requires form { IsSome (defined_field text.now) }
     requires none { machine.old.index ≡ None }
     requires run { IsRun script.now k machine.old }
     ensures run { OnOk result (IsRun script.now (k + 1) machine.new) }
     ensures after { OnOk result (IsAfter script.now machine.old.events machine.new.events) }
     ensures index { OnOk result (IsSome machine.new.index) }
 {
-    let field = field_of(alloc, text)?;
-    let shown = field.copy(alloc)?;
-    let mut built = define(alloc, field, &machine.store)?;
+    let def = definition(alloc, text)?;
+    let shown = Arc::try_clone(&def)?;
+    let mut built = define(alloc, def, &machine.store)?;
     machine.events.push(Happened::new(Event::Define {
         c: 0,
         k,
         i: 0,
         deferred: false,
-        field: shown,
+        def: shown,
     }))?;
     let at = catch_up(alloc, &mut built, &machine.store)?;
     push_publication(&mut machine.events, at)?;

@@ -1,3 +1,2 @@
 mod EntryLemmas
 pub mod StateLemmas
-mod KeyLemmas

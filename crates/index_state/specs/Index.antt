@@ -1,17 +1,14 @@
--- The index of documents, computed afresh, and a scan of it. `keys` gives the rows of one document.
+-- The index of documents, computed afresh. `keys` gives the rows of one document.
 use Rattle.std.specs.Prelude.{◌≡◌, ℕ, List, []}
 use Rattle.std.specs.List.{flat_map}
 use Rattle.std.specs.Option.{option_map_or}
 use Rattle.std.specs.Ordering.{nat_cmp}
 use Rattle.std.specs.Cmp.Lexicographic.{slice_cmp}
 use Rattle.std.specs.FinMap as map
-use Rattle.n1ql_value.specs.declared.range.Range.{Range}
 use Rattle.n1ql_value.specs.declared.row.Row.{Row}
 use Rattle.n1ql_value.specs.declared.value.Value.{Value}
 use Rattle.n1ql_value.specs.Collation.{row_cmp}
 use Rattle.n1ql_value.specs.SortedLists.{sort_of}
-use Rattle.index_tree.specs.Range.{range_of}
-use Rattle.index_state.specs.Keys.{keys_of}
 use Rattle.index_state.specs.RowsById.{RowsById, rows_at}
 
 -- documents by their ids, in byte order
@@ -21,14 +18,6 @@ Documents = map.FinMap (slice_cmp nat_cmp) Value
 -- the rows of all documents, in order, repeats kept
 abbrev pub index_by : (List ℕ → Value → List Row) → Documents → List Row
 index_by keys docs = sort_of row_cmp (flat_map (λ e. keys e.0 e.1) (map.entries docs))
-
--- the index on a field
-abbrev pub index_of : List ℕ → Documents → List Row
-index_of field docs = index_by (keys_of field) docs
-
--- the rows of the index that some span holds, each as often as it stands there, in the same order
-abbrev pub scan_of : List ℕ → List (List Range) → Documents → List Row
-scan_of field spans docs = range_of spans (index_of field docs)
 
 -- the rows of the document under the id, where there is one
 abbrev pub keys_at : (List ℕ → Value → List Row) → Documents → List ℕ → List Row

@@ -1,3 +1,2 @@
 pub mod RowsById
-pub mod Keys
 pub mod Index

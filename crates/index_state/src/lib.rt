@@ -2,12 +2,10 @@
 //! replaced without a look at any other document's.
 #![tactic(auto)]
 
-mod field;
 mod held;
 mod laws;
 mod state;
 
-pub use field::keys_of;
 pub use laws::{
     a_document_comes, a_document_goes, nothing_is_the_index_of_nothing, rows_are_the_index,
 };

@@ -1,14 +1,23 @@
 use super::*;
-use n1ql_value::{Memory, Pairs, Rows, Span, Spans, Text, Value};
+use n1ql_value::{Memory, Row, Rows, Span, Spans, Text, Vals, Value};
 use std::alloc::Global;
 use std::test::Fail;
 
-// The rows of the document `{"x":n}` in the index on x.
-fn rows(alloc: Global, n: i64, id: &Text) -> Result<Rows, Memory> {
-    let field = Text::of(alloc, "x")?;
-    let mut pairs = Pairs::new(alloc);
-    pairs.put(field.copy(alloc)?, Value::Int(n))?;
-    keys_of(alloc, &field, id, &Value::Object(pairs))
+// A row with one key.
+fn row(alloc: Global, key: i64, id: &Text) -> Result<Row, Memory> {
+    let mut keys = Vals::new(alloc);
+    keys.push(Value::Int(key))?;
+    let id = id.copy(alloc)?;
+    Ok(Row { keys, id })
+}
+
+// A row of the id for each of the keys.
+fn rows(alloc: Global, keys: &[i64], id: &Text) -> Result<Rows, Memory> {
+    let mut rows = Rows::new(alloc);
+    for key in keys {
+        rows.push(row(alloc, *key, id)?)?;
+    }
+    Ok(rows)
 }
 
 // The ids of all rows, in order.
@@ -27,14 +36,28 @@ fn one_document_at_a_time(rt: HostRuntime) -> Result<(), Fail> {
     let alloc = rt.alloc();
     let (a, b) = (Text::of(alloc, "a")?, Text::of(alloc, "b")?);
     let mut state = IndexState::new(alloc);
-    state.put(&a, rows(alloc, 5, &a)?)?;
-    state.put(&b, rows(alloc, 6, &b)?)?;
+    state.put(&a, rows(alloc, &[5], &a)?)?;
+    state.put(&b, rows(alloc, &[6], &b)?)?;
     assert_eq!(rt; ids(alloc, &state)?.as_str(), "ab");
-    state.put(&a, rows(alloc, 7, &a)?)?;
+    state.put(&a, rows(alloc, &[7], &a)?)?;
     assert_eq!(rt; ids(alloc, &state)?.as_str(), "ba");
     state.drop_id(&b)?;
     assert_eq!(rt; ids(alloc, &state)?.as_str(), "a");
-    state.put(&a, keys_of(alloc, &b, &a, &Value::Null)?)?;
-    assert_eq!(rt; state.len(), 0);
+    Ok(())
+}
+
+// An array key gives several rows, equal ones among them.
+#[test]
+fn several_rows_of_one_document(rt: HostRuntime) -> Result<(), Fail> {
+    let alloc = rt.alloc();
+    let (a, b) = (Text::of(alloc, "a")?, Text::of(alloc, "b")?);
+    let mut state = IndexState::new(alloc);
+    state.put(&a, rows(alloc, &[1, 3, 3], &a)?)?;
+    state.put(&b, rows(alloc, &[2], &b)?)?;
+    assert_eq!(rt; ids(alloc, &state)?.as_str(), "abaa");
+    state.put(&a, rows(alloc, &[1, 4], &a)?)?;
+    assert_eq!(rt; ids(alloc, &state)?.as_str(), "aba");
+    state.put(&a, Rows::new(alloc))?;
+    assert_eq!(rt; state.len(), 1);
     Ok(())
 }

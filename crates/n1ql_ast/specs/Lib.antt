@@ -7,3 +7,4 @@ pub mod Names
 pub mod Evaluation
 pub mod Forms
 pub mod Conjunction
+pub mod Statements

@@ -1,9 +1,12 @@
-//! Expressions of N1QL: their trees, their grammar and the resolution of names.
+//! Expressions of N1QL: their trees, their grammar and the resolution of names. Statements on indexes: their trees.
 #![tactic(auto)]
 
 mod agg;
 mod called;
+mod create;
+mod ddl;
 mod expr;
+mod key;
 mod kind;
 mod mark;
 mod phrase;
@@ -13,7 +16,10 @@ mod test;
 
 pub use agg::Agg;
 pub use called::{Called, called_by};
+pub use create::Create;
+pub use ddl::Ddl;
 pub use expr::{Expr, Exprs};
+pub use key::{Key, Keys};
 pub use kind::Kind;
 pub use mark::Mark;
 use n1ql_value::{ListOf, Text};

@@ -12,6 +12,7 @@ mod sameness;
 mod scope;
 
 pub use conjunction::{Conjuncts, conjuncts};
+pub use copies::copied;
 pub use env::Env;
 pub use evaluation::eval;
 pub use laws::between_is_two_comparisons;

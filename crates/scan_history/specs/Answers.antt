@@ -1,9 +1,12 @@
 -- The answers of a history, and how its indexes ended.
+use Rattle.std.specs.Option.{option_map_or}
 use Rattle.std.specs.Prelude.{ℕ, ◌==◌, List, [], ◌∷◌, ◌++◌, map, length, Option, Some, None, option_and_then, slice_get, if◌then◌else◌}
 use Rattle.n1ql_value.specs.declared.range.Range.{Range}
+use Rattle.n1ql_value.specs.declared.row.Row.{Row}
 use Rattle.vb_store.specs.declared.mutation.Mutation.{Mutation}
 use Rattle.vb_store.specs.Documents.{documents_at}
-use Rattle.index_state.specs.Index.{index_of, scan_of}
+use Rattle.index_def.specs.declared.definition.IndexDef.{IndexDef}
+use Rattle.index_def.specs.Index.{Documents, index_of, scan_of}
 use Rattle.scan_history.specs.declared.command.Command.{Command}
 use Rattle.scan_history.specs.declared.command.Command.TheVariants.{Upsert, Delete, Ddl, Scan}
 use Rattle.scan_history.specs.declared.script.Script.{Script}
@@ -12,7 +15,6 @@ use Rattle.scan_history.specs.declared.done.End.{End}
 use Rattle.scan_history.specs.Events.{Event, mutate, define, publish, online, start, answer}
 use Rattle.scan_history.specs.Fold.{Opened, nothing, work, started, Index, State, first_state, step, state_after}
 use Rattle.scan_history.specs.RowTexts.{rows_text}
-use Rattle.scan_history.specs.Ddl.{index_name}
 
 -- command k of client c
 abbrev pub command_at : Script → ℕ → ℕ → Option Command
@@ -26,30 +28,34 @@ spans_of (Some (Delete id)) = []
 spans_of (Some (Ddl text)) = []
 spans_of None = []
 
--- the field that index i is on
-abbrev pub field_of : ℕ → List Index → List ℕ
-field_of i [] = []
-field_of i (x ∷ xs) = if x.number == i then x.field else field_of i xs
+-- the definition of index i, where it is live
+abbrev pub definition_of : ℕ → List Index → Option IndexDef
+definition_of i [] = None
+definition_of i (x ∷ xs) = if x.number == i then Some x.def else definition_of i xs
 
--- the field of the index that a client's scan began on
-abbrev pub field_in : State → Opened → List ℕ
-field_in s nothing = []
-field_in s (work indexes high) = []
-field_in s (started i demand high) = field_of i s.indexes
+-- the definition of the index that a client's scan began on
+abbrev pub definition_in : State → Opened → Option IndexDef
+definition_in s nothing = None
+definition_in s (work indexes high) = None
+definition_in s (started i demand high) = definition_of i s.indexes
 
-abbrev pub started_field : State → ℕ → List ℕ
-started_field s c = field_in s (s.client c).opened
+abbrev pub started_definition : State → ℕ → Option IndexDef
+started_definition s c = definition_in s (s.client c).opened
+
+-- the rows of a scan, none without an index
+abbrev pub scan_under : Option IndexDef → List (List Range) → Documents → List Row
+scan_under def spans docs = option_map_or (λ d. scan_of d spans docs) def []
 
 -- The answer of an event in the state before it, where `log` are the mutations of the whole history: the rows of the index
 -- that the spans hold, on the documents at the answer's vector.
 abbrev pub answer_at : Script → List Mutation → State → Event → List Answered
 answer_at script log s (mutate c k what) = []
-answer_at script log s (define c k i deferred field) = []
+answer_at script log s (define c k i deferred def) = []
 answer_at script log s (publish i at) = []
 answer_at script log s (online c k indexes) = []
 answer_at script log s (start c k i demand) = []
 answer_at script log s (answer c k at) =
-    record { c = c; k = k; text = rows_text (scan_of (started_field s c) (spans_of (command_at script c k)) (documents_at log at)) } ∷ []
+    record { c = c; k = k; text = rows_text (scan_under (started_definition s c) (spans_of (command_at script c k)) (documents_at log at)) } ∷ []
 
 abbrev pub answers_from : Script → List Mutation → State → List Event → List Answered
 answers_from script log s [] = []
@@ -59,9 +65,9 @@ answers_from script log s (e ∷ es) = answer_at script log s e ++ answers_from 
 unfoldable pub answers_of : Script → List Event → List Answered
 answers_of script events = answers_from script (state_after script.vbuckets events).log (first_state script.vbuckets) events
 
--- how an index ended: under the one name that there is so far, with the rows of its newest publication
+-- how an index ended: under its name, with the rows of its newest publication
 abbrev pub end_of : List Mutation → Index → End
-end_of log x = record { i = x.number; name = index_name; online = x.online; vector = x.board; rows = length (index_of x.field (documents_at log x.board)) }
+end_of log x = record { i = x.number; name = x.def.name; online = x.online; vector = x.board; rows = length (index_of x.def (documents_at log x.board)) }
 
 -- how the live indexes of a history ended
 unfoldable pub ends_of : Script → List Event → List End

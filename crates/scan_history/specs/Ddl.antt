@@ -1,7 +1,10 @@
 -- The one statement that is read so far: an index called ix on one field of the keyspace ks, a letter from a to z.
-use Rattle.std.specs.Prelude.{ℕ, ◌&&◌, List, [], ◌∷◌, codes, Option, Some, None, slice_index, slice_set, nat_le, if◌then◌else◌}
-use Rattle.std.specs.Option.{option_map_or}
+use Rattle.std.specs.Prelude.{ℕ, ◌&&◌, false, List, [], ◌∷◌, codes, Option, Some, None, slice_index, slice_set, nat_le, if◌then◌else◌}
+use Rattle.std.specs.Option.{option_map}
 use Rattle.std.specs.Str.{bytes_eq}
+use Rattle.n1ql_ast.specs.declared.expr.Expr.TheVariants.{Doc, Field}
+use Rattle.n1ql_ast.specs.declared.key.Key.TheVariants.{Plain}
+use Rattle.index_def.specs.declared.definition.IndexDef.{IndexDef}
 
 -- the statement on a field
 abbrev pub statement_on : ℕ → List ℕ
@@ -13,10 +16,14 @@ defined_field text =
     let letter = slice_index text 22 in
     if nat_le 97 letter && nat_le letter 122 && bytes_eq text (statement_on letter) then Some letter else None
 
--- the same as a name; no name where the text is another
-abbrev pub field_name : List ℕ → List ℕ
-field_name text = option_map_or (λ letter. letter ∷ []) (defined_field text) []
-
 -- the name of that index
 abbrev pub index_name : List ℕ
 index_name = codes "ix"
+
+-- its definition: the one key is the field
+abbrev pub definition_on : ℕ → IndexDef
+definition_on letter = record { name = index_name; keys = Plain (Field Doc (letter ∷ [])) ∷ []; filter = []; primary = false }
+
+-- the definition that a text is the statement of
+abbrev pub definition_of_text : List ℕ → Option IndexDef
+definition_of_text text = option_map definition_on (defined_field text)

@@ -5,6 +5,7 @@ use Rattle.std.specs.Option.{option_map_or}
 use Rattle.seq_vector.specs.Vectors.{zeros, join}
 use Rattle.vb_store.specs.declared.mutation.Mutation.{Mutation}
 use Rattle.vb_store.specs.Mutations.{high_of}
+use Rattle.index_def.specs.declared.definition.IndexDef.{IndexDef}
 use Rattle.scan_history.specs.Events.{Event, mutate, define, publish, online, start, answer, client_of}
 
 -- what is open for a client: nothing; the creation of indexes, with the newest numbers when it began; or a scan that
@@ -20,10 +21,10 @@ pub record Client : Type 0 where
   pub next : ℕ
   pub seen : List ℕ
 
--- a live index: its number, the field that it is on, whether it is online, and the vector of its newest publication
+-- a live index: its number, its definition, whether it is online, and the vector of its newest publication
 pub record Index : Type 0 where
   pub number : ℕ
-  pub field : List ℕ
+  pub def : IndexDef
   pub online : Bool
   pub board : List ℕ
 
@@ -38,7 +39,7 @@ first_state n = record { log = []; indexes = []; client = λ c. record { opened 
 
 abbrev pub log_step : List Mutation → Event → List Mutation
 log_step log (mutate c k what) = log ++ what ∷ []
-log_step log (define c k i deferred field) = log
+log_step log (define c k i deferred def) = log
 log_step log (publish i at) = log
 log_step log (online c k indexes) = log
 log_step log (start c k i demand) = log
@@ -52,7 +53,7 @@ gone_online indexes x = if list_any (λ i. x.number == i) indexes then record x 
 
 abbrev pub index_step : ℕ → List Index → Event → List Index
 index_step n xs (mutate c k what) = xs
-index_step n xs (define c k i deferred field) = xs ++ record { number = i; field = field; online = false; board = zeros n } ∷ []
+index_step n xs (define c k i deferred def) = xs ++ record { number = i; def = def; online = false; board = zeros n } ∷ []
 index_step n xs (publish i at) = map (published i at) xs
 index_step n xs (online c k indexes) = map (gone_online indexes) xs
 index_step n xs (start c k i demand) = xs
@@ -65,7 +66,7 @@ closed s = record s { opened = nothing; next = s.next + 1 }
 -- a client's part after an event of its own, where `high` are the newest numbers before it
 abbrev pub own_step : List ℕ → Client → Event → Client
 own_step high s (mutate c k what) = closed s
-own_step high s (define c k i deferred field) = if deferred then closed s else record s { opened = work (i ∷ []) high }
+own_step high s (define c k i deferred def) = if deferred then closed s else record s { opened = work (i ∷ []) high }
 own_step high s (publish i at) = s
 own_step high s (online c k indexes) = closed s
 own_step high s (start c k i demand) = record s { opened = started i demand high }

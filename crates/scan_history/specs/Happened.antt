@@ -6,7 +6,7 @@ use Rattle.scan_history.specs.Events.{Event, mutate, define, publish, online, st
 
 abbrev pub event_of : Held → Event
 event_of (held.Mutate c k what) = mutate c k (arc_value what)
-event_of (held.Define c k i deferred field) = define c k i deferred field
+event_of (held.Define c k i deferred def) = define c k i deferred (arc_value def)
 event_of (held.Publish i at) = publish i (arc_value at)
 event_of (held.Online c k indexes) = online c k indexes
 event_of (held.Start c k i demand) = start c k i demand

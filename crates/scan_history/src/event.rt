@@ -1,6 +1,7 @@
 ghost use Rattle.std.specs.Prelude.{◌≡◌};
 
-use n1ql_value::{ListOf, Text};
+use index_def::IndexDef;
+use n1ql_value::ListOf;
 use seq_vector::Vector;
 use std::marker::Model;
 use std::sync::Arc;
@@ -24,7 +25,7 @@ pub enum Event {
         k: u32,
         i: u32,
         deferred: bool,
-        field: Text,
+        def: Arc<IndexDef>,
     },
     /// A snapshot of an index was published at a vector.
     Publish {
@@ -65,8 +66,9 @@ impl Model for Happened {
 
     ghost use Rattle.n1ql_value.specs.contracts.datum.Datum as datum;
     ghost use Rattle.std.specs.Coded.{codes};
+    ghost use Rattle.n1ql_ast.specs.contracts.expr.Expr as expr;
 
-    ghost coded = { Prim.hlevel (codes, datum.the_row.coded) };
+    ghost coded = { Prim.hlevel (codes, datum.the_row.coded, expr.the_row.coded) };
 
     ghost use Rattle.scan_history.specs.Happened.{event_of};
 

@@ -13,7 +13,7 @@ RaisesNext n = (log : List Mutation) (m : Mutation) → high_of n (log ++ m ∷ 
 
 counted-step : (n : ℕ) → RaisesNext n → (log : List Mutation) (e : Event) → high_of n (log_step log e) ≡ counted (high_of n log) e
 counted-step n raises log (mutate c k what) = raises log what
-counted-step n raises log (define c k i deferred field) = refl
+counted-step n raises log (define c k i deferred def) = refl
 counted-step n raises log (publish i at) = refl
 counted-step n raises log (online c k indexes) = refl
 counted-step n raises log (start c k i demand) = refl
@@ -32,7 +32,7 @@ counted-more n raises events i e old new lt is h g =
 
 one_event : (log : List Mutation) (e : Event) → length (log_step log e) ≤ length log + 1
 one_event log (mutate c k what) = omega (arith, length-append log (what ∷ []))
-one_event log (define c k i deferred field) = omega arith
+one_event log (define c k i deferred def) = omega arith
 one_event log (publish i at) = omega arith
 one_event log (online c k indexes) = omega arith
 one_event log (start c k i demand) = omega arith

@@ -42,7 +42,7 @@ event_more events answers i a e out more all lt is line h =
 
 pub answers_taken-le : (e : Event) → answers_taken e ≤ 1
 answers_taken-le (mutate c k what) = omega arith
-answers_taken-le (define c k i deferred field) = omega arith
+answers_taken-le (define c k i deferred def) = omega arith
 answers_taken-le (publish i at) = omega arith
 answers_taken-le (online c k indexes) = omega arith
 answers_taken-le (start c k i demand) = omega arith

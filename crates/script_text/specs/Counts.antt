@@ -6,7 +6,7 @@ use Rattle.scan_history.specs.Events.{Event, mutate, define, publish, online, st
 -- the counts after one more event
 abbrev pub counted : List ℕ → Event → List ℕ
 counted high (mutate c k what) = slice_set high what.vb (entry high what.vb + 1)
-counted high (define c k i deferred field) = high
+counted high (define c k i deferred def) = high
 counted high (publish i at) = high
 counted high (online c k indexes) = high
 counted high (start c k i demand) = high

@@ -14,7 +14,7 @@ use Rattle.script_text.specs.Lines.{word, array_of, object_of, line_of, vector_t
 abbrev pub event_line : Event → List ℕ → List ℕ
 event_line (mutate c k what) rows =
     line_of ((codes "c", decimal c) ∷ (codes "e", word (codes "mutate")) ∷ (codes "k", decimal k) ∷ (codes "seq", decimal what.seqno) ∷ (codes "vb", decimal what.vb) ∷ [])
-event_line (define c k i deferred field) rows =
+event_line (define c k i deferred def) rows =
     line_of ((codes "c", decimal c) ∷ (codes "e", word (codes "define")) ∷ (codes "i", decimal i) ∷ (codes "k", decimal k) ∷ (codes "state", word (if deferred then codes "deferred" else codes "building")) ∷ [])
 event_line (publish i at) rows =
     line_of ((codes "e", word (codes "publish")) ∷ (codes "i", decimal i) ∷ (codes "v", vector_text at) ∷ [])
@@ -33,7 +33,7 @@ first_text (a ∷ answers) = a.text
 -- each answer of a history takes one of the answers
 abbrev pub answers_taken : Event → ℕ
 answers_taken (mutate c k what) = 0
-answers_taken (define c k i deferred field) = 0
+answers_taken (define c k i deferred def) = 0
 answers_taken (publish i at) = 0
 answers_taken (online c k indexes) = 0
 answers_taken (start c k i demand) = 0

@@ -1,6 +1,7 @@
 ghost use Rattle.std.specs.Prelude.{◌≡◌, ◌++◌, [], drop, codes, if◌then◌else◌, OnOk};
 ghost use Rattle.std.specs.Arc.{arc_value};
 ghost use Rattle.scan_history.specs.Happened.{event_of};
+ghost use Rattle.index_def.specs.declared.definition.IndexDef.{IndexDef};
 ghost use Rattle.scan_history.specs.Events.{mutate, define, publish, online, start, answer};
 ghost use Rattle.script_text.specs.Reports.{event_line, event_lines, first_text, answers_taken};
 
@@ -79,7 +80,7 @@ fn mutate_line(out: &mut Vec<u8>, c: u32, k: u32, what: &Mutation) -> Result<(),
 }
 
 fn define_line(out: &mut Vec<u8>, c: u32, k: u32, i: u32, deferred: bool) -> Result<(), Memory>
-    ensures { OnOk result (out.new.items ≡ out.old.items ++ event_line (define c k i deferred []) []) }
+    ensures { (def : IndexDef) → OnOk result (out.new.items ≡ out.old.items ++ event_line (define c k i deferred def) []) }
 {
     first_number(out, "c", c as u64)?;
     word(out, "e", "define")?;

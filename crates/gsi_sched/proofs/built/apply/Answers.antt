@@ -1,11 +1,14 @@
 use Rattle.std.proofs.lemmas.Result.{on_ok_weaker}
-use Rattle.index_state.specs.Keys.{keys_of}
+use Rattle.index_def.specs.Keys.{keys_of}
 use Rattle.gsi_sched.proofs.Applied.{put_applied}
 use Rattle.gsi_sched.proofs.built.apply.Goals as goal
 
-pub returns-in_ok-rows-in-Some : goal.returns-in_ok-rows-in-Some
-returns-in_ok-rows-in-Some c =
+pub returns : goal.returns
+returns c =
+    let def = c.args.def.now in
+    let m = c.args.mutation.now in
     on_ok_weaker c.put.result
-    (λ e docs h. put_applied c.args.field.now docs c.args.state.now c.put.new.self c.args.mutation.now c.in-Some.doc c.in_ok-rows-in-Some.rows c.in-Some.is c.in_ok-rows-in-Some.ensures e
-    (c.a_document_comes.ensures (keys_of c.args.field.now) docs c.args.state.now c.args.mutation.now.id c.in-Some.doc h))
+    (λ e docs h. put_applied def docs c.args.state.now c.put.new.self m c.in_ok-rows.rows c.in_ok-rows.ensures e
+    (λ doc. c.a_document_comes.ensures (keys_of def) docs c.args.state.now m.id doc h)
+    (c.a_document_goes.ensures (keys_of def) docs c.args.state.now m.id h))
     c.put.ensures.ok

@@ -19,6 +19,6 @@ returns-in_ok-push-in-Some-clause-ends c =
     c.in_ok-push-in-Some.ensures.ok
     ∙ (ap (λ (ends : List End). ends ++ end ∷ []) c.new-ends.ensures
     ∙ closed_ends script c.args.k m c.requires.run c.in-Some.built c.catch_up.new.built c.in-Some.is c.in_ok-at-in-Some.at c.push_publication.new.events end
-    c.in_ok-push_publication-in-Some.ensures c.in_ok-at-in-Some.ensures.field c.in_ok-at-in-Some.ensures.board
+    c.in_ok-push_publication-in-Some.ensures c.in_ok-at-in-Some.ensures.def c.in_ok-at-in-Some.ensures.board
     (subst (λ (i : ℕ). StandsFor i m.store.log c.catch_up.new.built) c.requires.run.vbuckets c.in_ok-at-in-Some.ensures.stands)
     c.in_ok-end_of-in-Some.ensures)

@@ -5,7 +5,7 @@ use Rattle.script_text.proofs.LineLemmas.{first_member, next_member, end_of_line
 use Rattle.script_text.proofs.events.define_line.Goals as goal
 
 pub returns : goal.returns
-returns c =
+returns c def =
     let o = c.args.out.now.items in
     let h0 = first_member o c.first_number.new.out.items (codes "c", decimal c.args.c) c.in_ok-first_number.ensures in
     let h1 = next_member o c.first_number.new.out.items c.word.new.out.items (codes "c", decimal c.args.c) ([]) (codes "e", word (codes "define")) h0 c.in_ok-word.ensures in

@@ -1,0 +1,6 @@
+pub mod Mentions
+pub mod Definitions
+pub mod Reasons
+pub mod Forms
+pub mod Keys
+pub mod Index

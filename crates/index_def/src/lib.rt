@@ -1,0 +1,21 @@
+//! The definition of an index: what a statement defines or why it defines nothing, and which rows a document has.
+//!
+//! This crate evaluates nothing: the rows of a document are defined here and made by whoever evaluates.
+#![tactic(auto)]
+
+mod checking;
+mod copies;
+mod definition;
+mod fault;
+mod mention;
+mod reason;
+mod reasons;
+mod subject;
+
+pub use checking::check;
+pub use definition::IndexDef;
+pub use fault::DefFault;
+pub use reason::Reason;
+
+#[cfg(test)]
+mod tests;

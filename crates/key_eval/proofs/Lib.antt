@@ -1,0 +1,5 @@
+pub mod Sorting
+pub mod Once
+pub mod Growing
+pub mod Kept
+pub mod ArrayElements

@@ -1,0 +1,4 @@
+pub mod Versions
+pub mod Stands
+pub mod Tuples
+pub mod Neighbours

@@ -1,0 +1,188 @@
+-- Each tree that the grammar reads keeps what is allowed of its levels, by the cases of the grammar.
+use Rattle.std.proofs.Common.{◌≡◌, ℕ, suc, Bool, true, false, ◌||◌, List, [], length, Option, Some, None, IsTrue, refl, ap}
+use Rattle.n1ql_value.specs.declared.op.Op.TheVariants as op
+use Rattle.n1ql_ast.specs.declared.agg.Agg.TheVariants as over_rows
+use Rattle.n1ql_ast.specs.declared.expr.Expr.TheOpen.{Expr-F}
+use Rattle.n1ql_ast.specs.declared.kind.Kind.{Kind}
+use Rattle.n1ql_ast.specs.declared.phrase.Phrase.{Phrase}
+use Rattle.n1ql_ast.specs.declared.test.Test.TheVariants as test
+use Rattle.n1ql_ast.specs.Grammar as g
+use Rattle.n1ql_ast.specs.Grammar.{IsExpr, MoreOr, IsAnd, MoreAnd, IsNot, IsRel, MayTest, IsTest, IsRange, IsAdd, MoreAdd, IsMul, MoreMul, IsNeg, IsPost, MorePost, IsPrim, IsExprs, MoreExprs, IsObject, IsPairs, MorePairs, IsArms, MoreArms, MayElse, IsQuantified, IsEach, MayWhen}
+use Rattle.n1ql_ast.specs.Forms.{is_no_aggregate}
+use Rattle.n1ql_parse.proofs.Kept.{Allows, Keeps, KeepAll, KeepsIfAny, keep-none, keep-more, keeps-if-none, keeps-if-some, keeps-Const, keeps-Name, keeps-Meta, keeps-Field, keeps-Place, keeps-Not, keeps-Neg, keeps-Two, keeps-Is, keeps-Among, keeps-Between, keeps-Any, keeps-Every, keeps-Each, keeps-First, keeps-Call, keeps-List, keeps-Build, keeps-Case, keeps-Agg}
+
+or-more : (a : Bool) → IsTrue (a || false) → IsTrue (a || true)
+or-more true h = refl
+or-more false h = refl
+
+-- where aggregates may stand, all is allowed that is allowed where none may
+allows-less : (good : Expr-F Bool → Bool) → Allows good true → Allows good false
+allows-less good ok l counts none = ok l counts (or-more (is_no_aggregate l) none)
+
+-- the pairs of an object, and the arms of CASE
+record Entries (good : Expr-F Bool → Bool) (names : List (List ℕ)) (xs : List Phrase) : Type 0 where
+  count : length names ≡ length xs
+  values : KeepAll good xs
+
+record Arms (good : Expr-F Bool → Bool) (xs ys : List Phrase) : Type 0 where
+  count : length xs ≡ length ys
+  whens : KeepAll good xs
+  thens : KeepAll good ys
+
+record Over (good : Expr-F Bool → Bool) (x y : Phrase) : Type 0 where
+  first : Keeps good x
+  second : Keeps good y
+
+record Items (good : Expr-F Bool → Bool) (x y : Phrase) (when : Option Phrase) : Type 0 where
+  item : Keeps good x
+  over : Keeps good y
+  passes : KeepsIfAny good when
+
+mutual
+  pub kept : (good : Expr-F Bool → Bool) (agg : Bool) {ts rest : List Kind} {x : Phrase} → Allows good agg → IsExpr agg ts x rest → Keeps good x
+  kept good agg ok (g.expr p m) = kept-or good agg ok (kept-and good agg ok p) m
+
+  kept-or : (good : Expr-F Bool → Bool) (agg : Bool) {ts rest : List Kind} {x y : Phrase} → Allows good agg → Keeps good x → MoreOr agg x ts y rest → Keeps good y
+  kept-or good agg ok k g.or_done = k
+  kept-or good agg ok k (g.or_more {x = x} {y = y} p m) = kept-or good agg ok (keeps-Two good agg op.Or x y ok k (kept-and good agg ok p)) m
+
+  kept-and : (good : Expr-F Bool → Bool) (agg : Bool) {ts rest : List Kind} {x : Phrase} → Allows good agg → IsAnd agg ts x rest → Keeps good x
+  kept-and good agg ok (g.and p m) = kept-more_and good agg ok (kept-not good agg ok p) m
+
+  kept-more_and : (good : Expr-F Bool → Bool) (agg : Bool) {ts rest : List Kind} {x y : Phrase} → Allows good agg → Keeps good x → MoreAnd agg x ts y rest → Keeps good y
+  kept-more_and good agg ok k g.and_done = k
+  kept-more_and good agg ok k (g.and_more {x = x} {y = y} p m) = kept-more_and good agg ok (keeps-Two good agg op.And x y ok k (kept-not good agg ok p)) m
+
+  kept-not : (good : Expr-F Bool → Bool) (agg : Bool) {ts rest : List Kind} {x : Phrase} → Allows good agg → IsNot agg ts x rest → Keeps good x
+  kept-not good agg ok (g.not_not {x = x} p) = keeps-Not good agg x ok (kept-not good agg ok p)
+  kept-not good agg ok (g.not_rel p) = kept-rel good agg ok p
+
+  kept-rel : (good : Expr-F Bool → Bool) (agg : Bool) {ts rest : List Kind} {x : Phrase} → Allows good agg → IsRel agg ts x rest → Keeps good x
+  kept-rel good agg ok (g.rel p m) = kept-test good agg ok (kept-add good agg ok p) m
+
+  kept-test : (good : Expr-F Bool → Bool) (agg : Bool) {ts rest : List Kind} {x y : Phrase} → Allows good agg → Keeps good x → MayTest agg x ts y rest → Keeps good y
+  kept-test good agg ok k g.test_none = k
+  kept-test good agg ok k (g.test_compare {o = o} {x = x} {y = y} e p) = keeps-Two good agg o x y ok k (kept-add good agg ok p)
+  kept-test good agg ok k (g.test_is p) = kept-is good agg ok k p
+  kept-test good agg ok k (g.test_is_not {y = y} p) = keeps-Not good agg y ok (kept-is good agg ok k p)
+  kept-test good agg ok k (g.test_range p) = kept-range good agg ok k p
+  kept-test good agg ok k (g.test_not_range {y = y} p) = keeps-Not good agg y ok (kept-range good agg ok k p)
+
+  kept-is : (good : Expr-F Bool → Bool) (agg : Bool) {ts rest : List Kind} {x y : Phrase} → Allows good agg → Keeps good x → IsTest x ts y rest → Keeps good y
+  kept-is good agg ok k (g.is_null {x = x}) = keeps-Is good agg test.Null x ok k
+  kept-is good agg ok k (g.is_missing {x = x}) = keeps-Is good agg test.Missing x ok k
+  kept-is good agg ok k (g.is_valued {x = x}) = keeps-Is good agg test.Valued x ok k
+
+  kept-range : (good : Expr-F Bool → Bool) (agg : Bool) {ts rest : List Kind} {x y : Phrase} → Allows good agg → Keeps good x → IsRange agg x ts y rest → Keeps good y
+  kept-range good agg ok k (g.range_in {x = x} {y = y} p) = keeps-Among good agg x y ok k (kept-add good agg ok p)
+  kept-range good agg ok k (g.range_between {x = x} {low = low} {high = high} p q) = keeps-Between good agg x low high ok k (kept-add good agg ok p) (kept-add good agg ok q)
+
+  kept-add : (good : Expr-F Bool → Bool) (agg : Bool) {ts rest : List Kind} {x : Phrase} → Allows good agg → IsAdd agg ts x rest → Keeps good x
+  kept-add good agg ok (g.add p m) = kept-more_add good agg ok (kept-mul good agg ok p) m
+
+  kept-more_add : (good : Expr-F Bool → Bool) (agg : Bool) {ts rest : List Kind} {x y : Phrase} → Allows good agg → Keeps good x → MoreAdd agg x ts y rest → Keeps good y
+  kept-more_add good agg ok k g.add_done = k
+  kept-more_add good agg ok k (g.add_more {o = o} {x = x} {y = y} e p m) = kept-more_add good agg ok (keeps-Two good agg o x y ok k (kept-mul good agg ok p)) m
+
+  kept-mul : (good : Expr-F Bool → Bool) (agg : Bool) {ts rest : List Kind} {x : Phrase} → Allows good agg → IsMul agg ts x rest → Keeps good x
+  kept-mul good agg ok (g.mul p m) = kept-more_mul good agg ok (kept-neg good agg ok p) m
+
+  kept-more_mul : (good : Expr-F Bool → Bool) (agg : Bool) {ts rest : List Kind} {x y : Phrase} → Allows good agg → Keeps good x → MoreMul agg x ts y rest → Keeps good y
+  kept-more_mul good agg ok k g.mul_done = k
+  kept-more_mul good agg ok k (g.mul_more {o = o} {x = x} {y = y} e p m) = kept-more_mul good agg ok (keeps-Two good agg o x y ok k (kept-neg good agg ok p)) m
+
+  kept-neg : (good : Expr-F Bool → Bool) (agg : Bool) {ts rest : List Kind} {x : Phrase} → Allows good agg → IsNeg agg ts x rest → Keeps good x
+  kept-neg good agg ok (g.neg_neg {x = x} p) = keeps-Neg good agg x ok (kept-neg good agg ok p)
+  kept-neg good agg ok g.neg_least = keeps-Const good agg _ ok
+  kept-neg good agg ok (g.neg_post p) = kept-post good agg ok p
+
+  kept-post : (good : Expr-F Bool → Bool) (agg : Bool) {ts rest : List Kind} {x : Phrase} → Allows good agg → IsPost agg ts x rest → Keeps good x
+  kept-post good agg ok (g.post p m) = kept-path good agg ok (kept-prim good agg ok p) m
+
+  kept-path : (good : Expr-F Bool → Bool) (agg : Bool) {ts rest : List Kind} {x y : Phrase} → Allows good agg → Keeps good x → MorePost agg x ts y rest → Keeps good y
+  kept-path good agg ok k g.post_done = k
+  kept-path good agg ok k (g.post_field {name = name} {x = x} m) = kept-path good agg ok (keeps-Field good agg x name ok k) m
+  kept-path good agg ok k (g.post_place {x = x} {y = y} p m) = kept-path good agg ok (keeps-Place good agg x y ok k (kept good agg ok p)) m
+
+  kept-prim : (good : Expr-F Bool → Bool) (agg : Bool) {ts rest : List Kind} {x : Phrase} → Allows good agg → IsPrim agg ts x rest → Keeps good x
+  kept-prim good agg ok (g.prim_number below) = keeps-Const good agg _ ok
+  kept-prim good agg ok g.prim_string = keeps-Const good agg _ ok
+  kept-prim good agg ok g.prim_true = keeps-Const good agg _ ok
+  kept-prim good agg ok g.prim_false = keeps-Const good agg _ ok
+  kept-prim good agg ok g.prim_null = keeps-Const good agg _ ok
+  kept-prim good agg ok g.prim_missing = keeps-Const good agg _ ok
+  kept-prim good agg ok (g.prim_name {name = name}) = keeps-Name good agg name ok
+  kept-prim good agg ok (g.prim_bracket p) = kept good agg ok p
+  kept-prim good agg ok g.prim_empty = keeps-List good agg [] ok (keep-none good)
+  kept-prim good agg ok (g.prim_list {xs = xs} p) = keeps-List good agg xs ok (kept-all good agg ok p)
+  kept-prim good agg ok (g.prim_object p) = kept-object good agg ok p
+  kept-prim good agg ok (g.prim_case {whens = whens} {thens = thens} {other = other} p q) =
+      let a = kept-arms good agg ok p in keeps-Case good agg whens thens other ok a.count a.whens a.thens (kept-else good agg ok q)
+  kept-prim good agg ok (g.prim_any {name = name} {over = over} {test = test} p) =
+      let q = kept-quantified good agg ok p in keeps-Any good agg name over test ok q.first q.second
+  kept-prim good agg ok (g.prim_every {name = name} {over = over} {test = test} p) =
+      let q = kept-quantified good agg ok p in keeps-Every good agg name over test ok q.first q.second
+  kept-prim good agg ok (g.prim_array {name = name} {item = item} {over = over} {when = when} p) =
+      let q = kept-each good agg ok p in keeps-Each good agg name item over when ok q.item q.over q.passes
+  kept-prim good agg ok (g.prim_first {name = name} {item = item} {over = over} {when = when} p) =
+      let q = kept-each good agg ok p in keeps-First good agg name item over when ok q.item q.over q.passes
+  kept-prim good agg ok (g.prim_call {fun = fun} {xs = xs} is p count) = keeps-Call good agg fun xs ok count (kept-all good agg ok p)
+  kept-prim good agg ok (g.prim_meta is) = keeps-Meta good agg None ok
+  kept-prim good agg ok (g.prim_meta_of {whose = whose} is) = keeps-Meta good agg (Some whose) ok
+  kept-prim good agg ok (g.prim_count_all is) = keeps-Agg good over_rows.CountAll None ok (keeps-if-none good)
+  kept-prim good agg ok (g.prim_aggregate {a = a} {x = x} is p) =
+      keeps-Agg good a (Some x) ok (keeps-if-some good x (kept good false (allows-less good ok) p))
+
+  kept-all : (good : Expr-F Bool → Bool) (agg : Bool) {ts rest : List Kind} {xs : List Phrase} → Allows good agg → IsExprs agg ts xs rest → KeepAll good xs
+  kept-all good agg ok (g.exprs {x = x} {xs = xs} p m) = keep-more good x xs (kept good agg ok p) (kept-more_all good agg ok m)
+
+  kept-more_all : (good : Expr-F Bool → Bool) (agg : Bool) {ts rest : List Kind} {xs : List Phrase} → Allows good agg → MoreExprs agg ts xs rest → KeepAll good xs
+  kept-more_all good agg ok g.exprs_done = keep-none good
+  kept-more_all good agg ok (g.exprs_more p) = kept-all good agg ok p
+
+  kept-object : (good : Expr-F Bool → Bool) (agg : Bool) {ts rest : List Kind} {x : Phrase} → Allows good agg → IsObject agg ts x rest → Keeps good x
+  kept-object good agg ok g.object_empty = keeps-Build good agg [] [] ok refl (keep-none good)
+  kept-object good agg ok (g.object_pairs {names = names} {xs = xs} p) =
+      let q = kept-pairs good agg ok p in keeps-Build good agg names xs ok q.count q.values
+
+  kept-pairs : (good : Expr-F Bool → Bool) (agg : Bool) {ts rest : List Kind} {names : List (List ℕ)} {xs : List Phrase} → Allows good agg →
+      IsPairs agg ts names xs rest → Entries good names xs
+  kept-pairs good agg ok (g.pairs {x = x} {xs = xs} p m) =
+      let q = kept-more_pairs good agg ok m in record { count = ap suc q.count; values = keep-more good x xs (kept good agg ok p) q.values }
+
+  kept-more_pairs : (good : Expr-F Bool → Bool) (agg : Bool) {ts rest : List Kind} {names : List (List ℕ)} {xs : List Phrase} → Allows good agg →
+      MorePairs agg ts names xs rest → Entries good names xs
+  kept-more_pairs good agg ok g.pairs_done = record { count = refl; values = keep-none good }
+  kept-more_pairs good agg ok (g.pairs_more p) = kept-pairs good agg ok p
+
+  kept-arms : (good : Expr-F Bool → Bool) (agg : Bool) {ts rest : List Kind} {whens thens : List Phrase} → Allows good agg →
+      IsArms agg ts whens thens rest → Arms good whens thens
+  kept-arms good agg ok (g.arms {x = x} {y = y} {whens = whens} {thens = thens} p q m) =
+      let r = kept-more_arms good agg ok m in
+      record {
+        count = ap suc r.count;
+        whens = keep-more good x whens (kept good agg ok p) r.whens;
+        thens = keep-more good y thens (kept good agg ok q) r.thens;
+      }
+
+  kept-more_arms : (good : Expr-F Bool → Bool) (agg : Bool) {ts rest : List Kind} {whens thens : List Phrase} → Allows good agg →
+      MoreArms agg ts whens thens rest → Arms good whens thens
+  kept-more_arms good agg ok g.arms_done = record { count = refl; whens = keep-none good; thens = keep-none good }
+  kept-more_arms good agg ok (g.arms_more p) = kept-arms good agg ok p
+
+  kept-else : (good : Expr-F Bool → Bool) (agg : Bool) {ts rest : List Kind} {other : Option Phrase} → Allows good agg → MayElse agg ts other rest → KeepsIfAny good other
+  kept-else good agg ok g.else_none = keeps-if-none good
+  kept-else good agg ok (g.else_some {x = x} p) = keeps-if-some good x (kept good agg ok p)
+
+  kept-quantified : (good : Expr-F Bool → Bool) (agg : Bool) {ts rest : List Kind} {name : List ℕ} {over test : Phrase} → Allows good agg →
+      IsQuantified agg ts name over test rest → Over good over test
+  kept-quantified good agg ok (g.quantified p q) = record { first = kept good agg ok p; second = kept good agg ok q }
+
+  kept-each : (good : Expr-F Bool → Bool) (agg : Bool) {ts rest : List Kind} {name : List ℕ} {item over : Phrase} {when : Option Phrase} → Allows good agg →
+      IsEach agg ts name item over when rest → Items good item over when
+  kept-each good agg ok (g.each p q m) =
+      record { item = kept good agg ok p; over = kept good agg ok q; passes = kept-when good agg ok m }
+
+  kept-when : (good : Expr-F Bool → Bool) (agg : Bool) {ts rest : List Kind} {when : Option Phrase} → Allows good agg → MayWhen agg ts when rest → KeepsIfAny good when
+  kept-when good agg ok g.when_none = keeps-if-none good
+  kept-when good agg ok (g.when_some {x = x} p) = keeps-if-some good x (kept good agg ok p)

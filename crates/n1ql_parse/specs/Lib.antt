@@ -1,0 +1,6 @@
+pub mod Input
+pub mod Readings
+pub mod Faults
+pub mod Steps
+pub mod Parser
+pub mod Nests
