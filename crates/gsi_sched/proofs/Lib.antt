@@ -4,3 +4,7 @@ mod Shown
 mod Runs
 mod Actions
 mod Plays
+mod OneStatement
+mod OneReading
+mod OneDefinition
+mod OneText
