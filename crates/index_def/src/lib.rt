@@ -7,6 +7,7 @@ mod checking;
 mod copies;
 mod definition;
 mod fault;
+pub mod laws;
 mod mention;
 mod reason;
 mod reasons;

@@ -4,6 +4,7 @@
 mod elements;
 mod key_version;
 mod keys;
+pub mod laws;
 mod order;
 mod projected;
 mod rows;

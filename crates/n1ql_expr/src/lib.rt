@@ -17,3 +17,8 @@ pub use env::Env;
 pub use evaluation::eval;
 pub use laws::between_is_two_comparisons;
 pub use sameness::same;
+
+#[cfg(test)]
+mod tables;
+#[cfg(test)]
+mod tests;

@@ -33,10 +33,10 @@ record Over (good : Expr-F Bool → Bool) (x y : Phrase) : Type 0 where
   first : Keeps good x
   second : Keeps good y
 
-record Items (good : Expr-F Bool → Bool) (x y : Phrase) (when : Option Phrase) : Type 0 where
-  item : Keeps good x
-  over : Keeps good y
-  passes : KeepsIfAny good when
+pub record Items (good : Expr-F Bool → Bool) (x y : Phrase) (when : Option Phrase) : Type 0 where
+  pub item : Keeps good x
+  pub over : Keeps good y
+  pub passes : KeepsIfAny good when
 
 mutual
   pub kept : (good : Expr-F Bool → Bool) (agg : Bool) {ts rest : List Kind} {x : Phrase} → Allows good agg → IsExpr agg ts x rest → Keeps good x
@@ -140,7 +140,7 @@ mutual
   kept-more_all good agg ok g.exprs_done = keep-none good
   kept-more_all good agg ok (g.exprs_more p) = kept-all good agg ok p
 
-  kept-object : (good : Expr-F Bool → Bool) (agg : Bool) {ts rest : List Kind} {x : Phrase} → Allows good agg → IsObject agg ts x rest → Keeps good x
+  pub kept-object : (good : Expr-F Bool → Bool) (agg : Bool) {ts rest : List Kind} {x : Phrase} → Allows good agg → IsObject agg ts x rest → Keeps good x
   kept-object good agg ok g.object_empty = keeps-Build good agg [] [] ok refl (keep-none good)
   kept-object good agg ok (g.object_pairs {names = names} {xs = xs} p) =
       let q = kept-pairs good agg ok p in keeps-Build good agg names xs ok q.count q.values
@@ -178,7 +178,7 @@ mutual
       IsQuantified agg ts name over test rest → Over good over test
   kept-quantified good agg ok (g.quantified p q) = record { first = kept good agg ok p; second = kept good agg ok q }
 
-  kept-each : (good : Expr-F Bool → Bool) (agg : Bool) {ts rest : List Kind} {name : List ℕ} {item over : Phrase} {when : Option Phrase} → Allows good agg →
+  pub kept-each : (good : Expr-F Bool → Bool) (agg : Bool) {ts rest : List Kind} {name : List ℕ} {item over : Phrase} {when : Option Phrase} → Allows good agg →
       IsEach agg ts name item over when rest → Items good item over when
   kept-each good agg ok (g.each p q m) =
       record { item = kept good agg ok p; over = kept good agg ok q; passes = kept-when good agg ok m }

@@ -81,13 +81,13 @@ var-holds good agg name ok =
     subst IsTrue (sym (ap (holds good) (sym (expr.rolls-Var name)) ∙ fold-roll-Expr Bool (λ l. good l && of_each_part l) (Expr-F.Var name)))
     (level-holds good agg (Expr-F.Var name) ok refl refl refl)
 
-field-holds : (good : Expr-F Bool → Bool) (agg : Bool) (e : Expr) (name : List ℕ) → Allows good agg → IsTrue (holds good e) →
+pub field-holds : (good : Expr-F Bool → Bool) (agg : Bool) (e : Expr) (name : List ℕ) → Allows good agg → IsTrue (holds good e) →
     IsTrue (holds good (expr.Field e name))
 field-holds good agg e name ok p =
     subst IsTrue (sym (ap (holds good) (sym (expr.rolls-Field e name)) ∙ fold-roll-Expr Bool (λ l. good l && of_each_part l) (Expr-F.Field e name)))
     (level-holds good agg (Expr-F.Field (holds good e) name) ok refl refl p)
 
-meta-holds : (good : Expr-F Bool → Bool) (agg own : Bool) → Allows good agg → IsTrue (holds good (expr.MetaOf own))
+pub meta-holds : (good : Expr-F Bool → Bool) (agg own : Bool) → Allows good agg → IsTrue (holds good (expr.MetaOf own))
 meta-holds good agg own ok =
     subst IsTrue (sym (ap (holds good) (sym (expr.rolls-MetaOf own)) ∙ fold-roll-Expr Bool (λ l. good l && of_each_part l) (Expr-F.MetaOf own)))
     (level-holds good agg (Expr-F.MetaOf own) ok refl refl refl)

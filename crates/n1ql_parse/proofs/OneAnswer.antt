@@ -1,21 +1,22 @@
--- One reading and one fault of a text, and never both.
+-- One tree and one fault of a text in a language, and never both.
 use Rattle.std.proofs.Common.{◌≡◌, ℕ, ◌+◌, ◌<◌, ◌≤◌, List, [], ◌∷◌, length, take, drop, refl, sym, ap, subst, ◌∙◌, ◌⊎◌, inl, inr, ⊎_elim, arith}
 use Rattle.std.proofs.lemmas.Bool.{cases_lt}
 use Rattle.std.proofs.lemmas.List.{take-append-drop}
+use Rattle.n1ql_ast.specs.declared.ddl.Ddl.{Ddl}
 use Rattle.n1ql_ast.specs.declared.expr.Expr.{Expr}
 use Rattle.n1ql_ast.specs.declared.kind.Kind.{Kind}
 use Rattle.n1ql_ast.specs.declared.phrase.Phrase.{Phrase}
 use Rattle.n1ql_ast.specs.Faults.{Begins, FollowsExpr, Leaves}
 use Rattle.n1ql_ast.specs.Grammar.{IsWhole}
 use Rattle.n1ql_ast.specs.Names.{outermost, resolved}
+use Rattle.n1ql_ast.specs.Statements.{FollowsDdl, IsStatement}
 use Rattle.n1ql_lex.specs.declared.token.Token.{Token}
 use Rattle.n1ql_lex.specs.Tokens.{IsFault, IsTokens}
-use Rattle.n1ql_parse.specs.Faults.{IsFaultAt, no_token, too_many, no_text_goes_on, place_of}
+use Rattle.n1ql_parse.specs.Faults.{IsFaultIn, IsTokenFault, no_token, too_many, not_few_tokens, no_text_goes_on, place_of}
 use Rattle.n1ql_parse.specs.Input.{kinds_of}
-use Rattle.n1ql_parse.specs.Parser.{parsed}
-use Rattle.n1ql_parse.specs.Readings.{IsReading, most_tokens}
-use Rattle.n1ql_parse.specs.Steps.{Outcome, got, stuck}
-use Rattle.n1ql_parse.proofs.Whole.{reads-exactly, reads-back, faults-stuck, faults-left}
+use Rattle.n1ql_parse.specs.Readings.{IsMeant, IsTextOf, most_tokens}
+use Rattle.n1ql_parse.specs.Steps.{Outcome, got, stuck, Parser}
+use Rattle.n1ql_parse.proofs.Texts.{Exact, exact-expr, exact-statement}
 
 -- what the tokens of a text obey
 abbrev pub OneTokenList : Type 0
@@ -27,21 +28,8 @@ OneFault = (text : List ℕ) (at other : ℕ) → IsFault text at → IsFault te
 abbrev pub NeverBoth : Type 0
 NeverBoth = (text : List ℕ) (tokens : List Token) (at : ℕ) → IsTokens text tokens → IsFault text at → ⊥
 
-abbrev pub Either : Type 0
-Either = (text : List ℕ) → ((tokens : List Token) × IsTokens text tokens) ⊎ ((at : ℕ) × IsFault text at)
-
-same-outcome : (x y : Phrase) (ts : List Kind) → parsed ts ≡ got x [] → parsed ts ≡ got y [] → x ≡ y
-same-outcome x y ts e f = cc
-
-whole-same : (ts : List Kind) (x y : Phrase) → IsWhole ts x → IsWhole ts y → x ≡ y
-whole-same ts x y p q = same-outcome x y ts (reads-back ts x p) (reads-back ts y q)
-
-pub reading-same : OneTokenList → (text alias : List ℕ) (e other : Expr) → IsReading text alias e → IsReading text alias other → e ≡ other
-reading-same one text alias e other r s =
-    let tokens : r.tokens ≡ s.tokens = one text r.tokens s.tokens r.cut s.cut in
-    let whole : IsWhole (kinds_of s.tokens) r.phrase = subst (λ ts. IsWhole (kinds_of ts) r.phrase) tokens r.whole in
-    let phrase : r.phrase ≡ s.phrase = whole-same (kinds_of s.tokens) r.phrase s.phrase whole s.whole in
-    r.meaning ∙ (ap (λ x. resolved x (outermost alias)) phrase ∙ sym s.meaning)
+abbrev pub EitherOne : Type 0
+EitherOne = (text : List ℕ) → ((tokens : List Token) × IsTokens text tokens) ⊎ ((at : ℕ) × IsFault text at)
 
 -- a list that follows a language has no place at which it leaves it
 follows-begins : (Follows : List Kind → Type 0) (ts : List Kind) (n : ℕ) → Follows ts → Begins Follows (take n ts)
@@ -70,76 +58,114 @@ leaves-same Follows ts n m l k =
     (cases_lt m n))
     (cases_lt n m)
 
-pub reading-never-fault : OneTokenList → NeverBoth → (text alias : List ℕ) (e : Expr) (at : ℕ) → IsReading text alias e → IsFaultAt text at → ⊥
-reading-never-fault one never text alias e at r (no_token f) = never text r.tokens at r.cut f
-reading-never-fault one never text alias e at r (too_many {tokens = ts} cut many place) =
-    let same : ts ≡ r.tokens = one text ts r.tokens cut r.cut in
-    let len : length ts ≡ length r.tokens = ap length same in
-    let few : length r.tokens ≤ most_tokens = r.few in
-    omega (arith, len, few, many)
-reading-never-fault one never text alias e at r (no_text_goes_on {tokens = ts} n cut few leaves place) =
-    let same : r.tokens ≡ ts = one text r.tokens ts r.cut cut in
-    follows-never-leaves FollowsExpr (kinds_of ts) n (r.phrase, subst (λ us. IsWhole (kinds_of us) r.phrase) same r.whole) leaves
-
 -- the same tokens are not both too many and few
 many-or-few : OneTokenList → (text : List ℕ) (ts us : List Token) → IsTokens text ts → IsTokens text us → most_tokens < length ts →
     length us ≤ most_tokens → ⊥
 many-or-few one text ts us p q many few =
     let len : length ts ≡ length us = ap length (one text ts us p q) in omega (arith, len, many, few)
 
-pub fault-same : OneTokenList → OneFault → NeverBoth → (text : List ℕ) (at other : ℕ) → IsFaultAt text at → IsFaultAt text other → at ≡ other
-fault-same one fault never text at other (no_token f) (no_token g) = fault text at other f g
-fault-same one fault never text at other (no_token f) (too_many {tokens = us} cut many place) = absurd (never text us at cut f)
-fault-same one fault never text at other (no_token f) (no_text_goes_on {tokens = us} n cut few leaves place) = absurd (never text us at cut f)
-fault-same one fault never text at other (too_many {tokens = ts} cut many place) (no_token g) = absurd (never text ts other cut g)
-fault-same one fault never text at other (too_many {tokens = ts} cut many place) (too_many {tokens = us} cut2 many2 place2) =
+-- a text with few tokens has no fault in them
+few-never-fault : OneTokenList → NeverBoth → (text : List ℕ) (tokens : List Token) (at : ℕ) → IsTokens text tokens → length tokens ≤ most_tokens → IsTokenFault text at → ⊥
+few-never-fault one never text tokens at cut few (no_token f) = never text tokens at cut f
+few-never-fault one never text tokens at cut few (too_many {tokens = us} more many place) = many-or-few one text us tokens more cut many few
+
+token-fault-same : OneTokenList → OneFault → NeverBoth → (text : List ℕ) (at other : ℕ) → IsTokenFault text at → IsTokenFault text other → at ≡ other
+token-fault-same one fault never text at other (no_token f) (no_token g) = fault text at other f g
+token-fault-same one fault never text at other (no_token f) (too_many {tokens = us} cut many place) = absurd (never text us at cut f)
+token-fault-same one fault never text at other (too_many {tokens = ts} cut many place) (no_token g) = absurd (never text ts other cut g)
+token-fault-same one fault never text at other (too_many {tokens = ts} cut many place) (too_many {tokens = us} cut2 many2 place2) =
     place ∙ (ap (λ ts. place_of text ts most_tokens) (one text ts us cut cut2) ∙ sym place2)
-fault-same one fault never text at other (too_many {tokens = ts} cut many place) (no_text_goes_on {tokens = us} n cut2 few leaves place2) =
-    absurd (many-or-few one text ts us cut cut2 many few)
-fault-same one fault never text at other (no_text_goes_on {tokens = ts} n cut few leaves place) (no_token g) = absurd (never text ts other cut g)
-fault-same one fault never text at other (no_text_goes_on {tokens = ts} n cut few leaves place) (too_many {tokens = us} cut2 many place2) =
-    absurd (many-or-few one text us ts cut2 cut many few)
-fault-same one fault never text at other (no_text_goes_on {tokens = ts} n cut few leaves place) (no_text_goes_on {tokens = us} m cut2 few2 leaves2 place2) =
+
+pub fault-same : OneTokenList → OneFault → NeverBoth → (Follows : List Kind → Type 0) (text : List ℕ) (at other : ℕ) →
+    IsFaultIn Follows text at → IsFaultIn Follows text other → at ≡ other
+fault-same one fault never Follows text at other (not_few_tokens f) (not_few_tokens g) = token-fault-same one fault never text at other f g
+fault-same one fault never Follows text at other (not_few_tokens f) (no_text_goes_on {tokens = us} n cut few leaves place) =
+    absurd (few-never-fault one never text us at cut few f)
+fault-same one fault never Follows text at other (no_text_goes_on {tokens = ts} n cut few leaves place) (not_few_tokens g) =
+    absurd (few-never-fault one never text ts other cut few g)
+fault-same one fault never Follows text at other (no_text_goes_on {tokens = ts} n cut few leaves place) (no_text_goes_on {tokens = us} m cut2 few2 leaves2 place2) =
     let same : ts ≡ us = one text ts us cut cut2 in
-    let l : Leaves FollowsExpr (kinds_of us) n = subst (λ vs. Leaves FollowsExpr (kinds_of vs) n) same leaves in
-    let count : n ≡ m = leaves-same FollowsExpr (kinds_of us) n m l leaves2 in
+    let l : Leaves Follows (kinds_of us) n = subst (λ vs. Leaves Follows (kinds_of vs) n) same leaves in
+    let count : n ≡ m = leaves-same Follows (kinds_of us) n m l leaves2 in
     place ∙ (ap (λ vs. place_of text vs n) same ∙ (ap (λ k. place_of text us k) count ∙ sym place2))
 
--- a text is an expression, or has a fault
-abbrev pub Answer : List ℕ → List ℕ → Type 0
-Answer text alias = ((e : Expr) × IsReading text alias e) ⊎ ((at : ℕ) × IsFaultAt text at)
+-- What the trees of a language obey.
+pub record Language {A : Type 0} (Is : List Kind → A → Type 0) (Follows : List Kind → Type 0) : Type 0 where
+  pub same : (ts : List Kind) (x y : A) → Is ts x → Is ts y → x ≡ y
+  pub follows : (ts : List Kind) (x : A) → Is ts x → Follows ts
+  pub either : (ts : List Kind) → ((x : A) × Is ts x) ⊎ ((n : ℕ) × Leaves Follows ts n)
 
-leaves-answer : (text alias : List ℕ) (ts : List Token) (n : ℕ) → IsTokens text ts → length ts ≤ most_tokens →
-    Leaves FollowsExpr (kinds_of ts) n → Answer text alias
-leaves-answer text alias ts n cut few leaves = inr (place_of text ts n, no_text_goes_on n cut few leaves refl)
+pub text-same : {A : Type 0} {Is : List Kind → A → Type 0} {Follows : List Kind → Type 0} → Language Is Follows → OneTokenList →
+    (text : List ℕ) (x y : A) → IsTextOf Is text x → IsTextOf Is text y → x ≡ y
+text-same {A} {Is} {Follows} language one text x y r s =
+    let tokens : r.tokens ≡ s.tokens = one text r.tokens s.tokens r.cut s.cut in
+    language.same (kinds_of s.tokens) x y (subst (λ ts. Is (kinds_of ts) x) tokens r.whole) s.whole
 
-outcome-answer : (text alias : List ℕ) (ts : List Token) (o : Outcome Phrase) → IsTokens text ts → length ts ≤ most_tokens →
-    parsed (kinds_of ts) ≡ o → Answer text alias
-outcome-answer text alias ts (got x []) cut few e =
-    inl (
-      resolved x (outermost alias),
-      record {
-        tokens = ts;
-        cut = cut;
-        few = few;
-        phrase = x;
-        whole = reads-exactly (kinds_of ts) x e;
-        meaning = refl;
-      },
-    )
-outcome-answer text alias ts (got x (t ∷ rest)) cut few e = leaves-answer text alias ts _ cut few (faults-left (kinds_of ts) x t rest e).1
-outcome-answer text alias ts (stuck left) cut few e = leaves-answer text alias ts _ cut few (faults-stuck (kinds_of ts) left e).1
+pub text-never-fault : {A : Type 0} {Is : List Kind → A → Type 0} {Follows : List Kind → Type 0} → Language Is Follows → OneTokenList → NeverBoth →
+    (text : List ℕ) (x : A) (at : ℕ) → IsTextOf Is text x → IsFaultIn Follows text at → ⊥
+text-never-fault language one never text x at r (not_few_tokens f) = few-never-fault one never text r.tokens at r.cut r.few f
+text-never-fault {A} {Is} {Follows} language one never text x at r (no_text_goes_on {tokens = ts} n cut few leaves place) =
+    let same : r.tokens ≡ ts = one text r.tokens ts r.cut cut in
+    follows-never-leaves Follows (kinds_of ts) n (language.follows (kinds_of ts) x (subst (λ us. Is (kinds_of us) x) same r.whole)) leaves
 
-tokens-answer : (text alias : List ℕ) (ts : List Token) → IsTokens text ts → Answer text alias
-tokens-answer text alias ts cut =
+-- a text has a tree, or a fault
+abbrev pub Answer : {A : Type 0} → (List Kind → A → Type 0) → (List Kind → Type 0) → List ℕ → Type 0
+Answer {A} Is Follows text = ((x : A) × IsTextOf Is text x) ⊎ ((at : ℕ) × IsFaultIn Follows text at)
+
+few-answer : {A : Type 0} {Is : List Kind → A → Type 0} {Follows : List Kind → Type 0} → Language Is Follows → (text : List ℕ) (ts : List Token) →
+    IsTokens text ts → length ts ≤ most_tokens → Answer Is Follows text
+few-answer language text ts cut few =
     ⊎_elim
-    (λ many. inr (place_of text ts most_tokens, too_many cut many refl))
-    (λ few. outcome-answer text alias ts (parsed (kinds_of ts)) cut few refl)
+    (λ h. inl (h.0, record { tokens = ts; cut = cut; few = few; whole = h.1 }))
+    (λ h. inr (place_of text ts h.0, no_text_goes_on h.0 cut few h.1 refl))
+    (language.either (kinds_of ts))
+
+tokens-answer : {A : Type 0} {Is : List Kind → A → Type 0} {Follows : List Kind → Type 0} → Language Is Follows → (text : List ℕ) (ts : List Token) →
+    IsTokens text ts → Answer Is Follows text
+tokens-answer language text ts cut =
+    ⊎_elim
+    (λ many. inr (place_of text ts most_tokens, not_few_tokens (too_many cut many refl)))
+    (λ few. few-answer language text ts cut few)
     (cases_lt most_tokens (length ts))
 
-pub reading-or-fault : Either → (text alias : List ℕ) → Answer text alias
-reading-or-fault either text alias =
+pub text-or-fault : {A : Type 0} {Is : List Kind → A → Type 0} {Follows : List Kind → Type 0} → Language Is Follows → EitherOne → (text : List ℕ) → Answer Is Follows text
+text-or-fault language either text =
     ⊎_elim
-    (λ h. tokens-answer text alias h.0 h.1)
-    (λ h. inr (h.0, no_token h.1))
+    (λ h. tokens-answer language text h.0 h.1)
+    (λ h. inr (h.0, not_few_tokens (no_token h.1)))
     (either text)
+
+-- a rule that is exact makes its language one of these
+same-outcome : {A : Type 0} (o : Outcome A) (x y : A) → o ≡ got x [] → o ≡ got y [] → x ≡ y
+same-outcome o x y e f = cc
+
+exact-either : {A : Type 0} {p : Parser A} {Is : List Kind → A → Type 0} → Exact p Is → (ts : List Kind) (o : Outcome A) → p ts ≡ o →
+    ((x : A) × Is ts x) ⊎ ((n : ℕ) × Leaves (λ us. (y : A) × Is us y) ts n)
+exact-either exact ts (got x []) e = inl (x, exact.reads ts x e)
+exact-either exact ts (got x (t ∷ rest)) e = inr (_, (exact.has_more ts x t rest e).1)
+exact-either exact ts (stuck left) e = inr (_, (exact.is_stuck ts left e).1)
+
+exact-language : {A : Type 0} {p : Parser A} {Is : List Kind → A → Type 0} → Exact p Is → Language Is (λ us. (y : A) × Is us y)
+exact-language {A} {p} {Is} exact = record {
+  same = λ ts x y h k. same-outcome (p ts) x y (exact.back ts x h) (exact.back ts y k);
+  follows = λ ts x h. (x, h);
+  either = λ ts. exact-either exact ts (p ts) refl;
+}
+
+pub statements : Language IsStatement FollowsDdl
+statements = exact-language exact-statement
+
+phrases : Language IsWhole FollowsExpr
+phrases = exact-language exact-expr
+
+pub expressions : (alias : List ℕ) → Language (IsMeant alias) FollowsExpr
+expressions alias = record {
+  same = λ ts e other r s.
+      r.meaning ∙ (ap (λ x. resolved x (outermost alias)) (phrases.same ts r.phrase s.phrase r.whole s.whole) ∙ sym s.meaning);
+  follows = λ ts e r. (r.phrase, r.whole);
+  either = λ ts.
+      ⊎_elim
+      (λ h. inl (resolved h.0 (outermost alias), record { phrase = h.0; whole = h.1; meaning = refl }))
+      (λ h. inr h)
+      (phrases.either ts);
+}

@@ -18,3 +18,7 @@ pub mod Forms
 pub mod Primaries
 pub mod Rounds
 pub mod Places
+pub mod Wholes
+pub mod Several
+pub mod Clauses
+pub mod Statements

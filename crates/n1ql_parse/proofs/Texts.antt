@@ -1,64 +1,110 @@
--- From what the rules read to the readings and faults of a text.
-use Rattle.std.proofs.Common.{◌≡◌, ℕ, ◌-◌, ◌≤◌, List, [], ◌∷◌, length, refl, sym, subst}
-use Rattle.n1ql_ast.specs.declared.expr.Expr.{Expr}
+-- From what the rules of a language read to the trees and faults of a text.
+use Rattle.std.proofs.Common.{◌≡◌, ℕ, ◌-◌, ◌≤◌, List, [], ◌∷◌, length, map, refl, sym, ap, subst}
+use Rattle.std.specs.Prelude.{Result, Ok, Err, IfOk, IfErr}
+use Rattle.std.proofs.lemmas.List.{length-map}
+use Rattle.n1ql_ast.specs.declared.ddl.Ddl.{Ddl}
 use Rattle.n1ql_ast.specs.declared.kind.Kind.{Kind}
 use Rattle.n1ql_ast.specs.declared.phrase.Phrase.{Phrase}
 use Rattle.n1ql_ast.specs.Faults.{FollowsExpr, Leaves}
-use Rattle.n1ql_ast.specs.Forms.{IsWellFormed, HasNoAggregate}
 use Rattle.n1ql_ast.specs.Grammar.{IsWhole}
-use Rattle.n1ql_ast.specs.Names.{outermost, resolved}
+use Rattle.n1ql_ast.specs.Statements.{FollowsDdl, IsStatement}
 use Rattle.n1ql_lex.specs.declared.token.Token.{Token}
 use Rattle.n1ql_lex.specs.Tokens.{IsTokens}
 use Rattle.n1ql_parse.specs.declared.parse_fault.ParseFault.{ParseFault}
-use Rattle.n1ql_parse.specs.declared.parse_fault.ParseFault.TheVariants.{Fault, Memory}
-use Rattle.n1ql_parse.specs.Faults.{GrammarFault, IsFaultOf, no_text_goes_on}
-use Rattle.n1ql_parse.specs.Input.{kinds_of}
+use Rattle.n1ql_parse.specs.declared.parse_fault.ParseFault.TheVariants as fault
+use Rattle.n1ql_parse.specs.declared.stop.Stop.{Stop}
+use Rattle.n1ql_parse.specs.declared.stop.Stop.TheVariants.{Fault, Memory}
+use Rattle.n1ql_parse.specs.Faults.{IsFaultIn, IsTokenFault, LeftOf, OnPlace, StopsIn, fault_at, not_few_tokens, no_text_goes_on}
+use Rattle.n1ql_parse.specs.Input.{kind_of, kinds_of}
 use Rattle.n1ql_parse.specs.Parser.{parsed, parsed_whole}
-use Rattle.n1ql_parse.specs.Readings.{IsReading, most_tokens}
-use Rattle.n1ql_parse.specs.Steps.{Outcome, got, stuck, and_then, end_of}
-use Rattle.n1ql_parse.proofs.Whole.{reads-exactly, faults-stuck, faults-left, whole-formed, whole-plain}
+use Rattle.n1ql_parse.specs.Readings.{most_tokens}
+use Rattle.n1ql_parse.specs.Statements.{statement_parsed, whole_statement}
+use Rattle.n1ql_parse.specs.Steps.{Outcome, got, stuck, Parser, Gives, and_then, end_of}
+use Rattle.n1ql_parse.proofs.WholeStatements.{statement-reads-exactly, statement-reads-back, statement-faults-stuck, statement-faults-left}
+use Rattle.n1ql_parse.proofs.Whole.{reads-exactly, reads-back, faults-stuck, faults-left}
 
--- the outcome of `parsed_whole`, given that of `parsed`
-abbrev ended : Outcome Phrase → Outcome Phrase
+-- A rule reads a whole list exactly where the language gives it the tree, and stops where the list leaves the language.
+pub record Exact {A : Type 0} (p : Parser A) (Is : List Kind → A → Type 0) : Type 0 where
+  pub reads : (ts : List Kind) (x : A) → p ts ≡ got x [] → Is ts x
+  pub back : (ts : List Kind) (x : A) → Is ts x → p ts ≡ got x []
+  pub is_stuck : (ts : List Kind) (left : ℕ) → p ts ≡ stuck left → (left ≤ length ts) × Leaves (λ us. (y : A) × Is us y) ts (length ts - left)
+  pub has_more : (ts : List Kind) (x : A) (t : Kind) (rest : List Kind) → p ts ≡ got x (t ∷ rest) →
+      (length (t ∷ rest) ≤ length ts) × Leaves (λ us. (y : A) × Is us y) ts (length ts - length (t ∷ rest))
+
+pub exact-expr : Exact parsed IsWhole
+exact-expr = record { reads = reads-exactly; back = reads-back; is_stuck = faults-stuck; has_more = faults-left }
+
+pub exact-statement : Exact statement_parsed IsStatement
+exact-statement = record {
+  reads = statement-reads-exactly;
+  back = statement-reads-back;
+  is_stuck = statement-faults-stuck;
+  has_more = statement-faults-left;
+}
+
+-- the outcome of a rule with the end behind it
+abbrev ended : {A : Type 0} → Outcome A → Outcome A
 ended o = and_then o (λ x rest. and_then (end_of rest) (λ _ us. got x us))
 
-read-ended : (ts : List Kind) (o : Outcome Phrase) (x : Phrase) → parsed ts ≡ o → ended o ≡ got x [] → IsWhole ts x
-read-ended ts (got y []) x e h = let same : y ≡ x = cc in subst (λ z. IsWhole ts z) same (reads-exactly ts y e)
-read-ended ts (got y (t ∷ rest)) x e h = cc
-read-ended ts (stuck left) x e h = cc
+read-ended : {A : Type 0} {p : Parser A} {Is : List Kind → A → Type 0} → Exact p Is → (ts : List Kind) (o : Outcome A) (x : A) → p ts ≡ o → ended o ≡ got x [] → Is ts x
+read-ended {A} {p} {Is} exact ts (got y []) x e h = let same : y ≡ x = cc in subst (λ z. Is ts z) same (exact.reads ts y e)
+read-ended exact ts (got y (t ∷ rest)) x e h = cc
+read-ended exact ts (stuck left) x e h = cc
 
-stuck-ended : (ts : List Kind) (o : Outcome Phrase) (left : ℕ) → parsed ts ≡ o → ended o ≡ stuck left →
-    (left ≤ length ts) × Leaves FollowsExpr ts (length ts - left)
-stuck-ended ts (got y []) left e h = cc
-stuck-ended ts (got y (t ∷ rest)) left e h =
+stuck-ended : {A : Type 0} {p : Parser A} {Is : List Kind → A → Type 0} → Exact p Is → (ts : List Kind) (o : Outcome A) (left : ℕ) → p ts ≡ o → ended o ≡ stuck left →
+    (left ≤ length ts) × Leaves (λ us. (y : A) × Is us y) ts (length ts - left)
+stuck-ended exact ts (got y []) left e h = cc
+stuck-ended {A} {p} {Is} exact ts (got y (t ∷ rest)) left e h =
     let same : length (t ∷ rest) ≡ left = cc in
-    subst (λ n. (n ≤ length ts) × Leaves FollowsExpr ts (length ts - n)) same (faults-left ts y t rest e)
-stuck-ended ts (stuck n) left e h =
+    subst (λ n. (n ≤ length ts) × Leaves (λ us. (y : A) × Is us y) ts (length ts - n)) same (exact.has_more ts y t rest e)
+stuck-ended {A} {p} {Is} exact ts (stuck n) left e h =
     let same : n ≡ left = cc in
-    subst (λ n. (n ≤ length ts) × Leaves FollowsExpr ts (length ts - n)) same (faults-stuck ts n e)
+    subst (λ n. (n ≤ length ts) × Leaves (λ us. (y : A) × Is us y) ts (length ts - n)) same (exact.is_stuck ts n e)
 
-pub parsed_whole-read : (ts : List Kind) (x : Phrase) → parsed_whole ts ≡ got x [] → IsWhole ts x
+pub expr-read : (ts : List Kind) (x : Phrase) → parsed_whole ts ≡ got x [] → IsWhole ts x
 unfolding parsed_whole
-parsed_whole-read ts x h = read-ended ts (parsed ts) x refl h
+expr-read ts x h = read-ended exact-expr ts (parsed ts) x refl h
 
-pub parsed_whole-stuck : (ts : List Kind) (left : ℕ) → parsed_whole ts ≡ stuck left →
-    (left ≤ length ts) × Leaves FollowsExpr ts (length ts - left)
+pub expr-stops : (ts : List Kind) (left : ℕ) → parsed_whole ts ≡ stuck left → StopsIn FollowsExpr ts (Fault left)
 unfolding parsed_whole
-parsed_whole-stuck ts left h = stuck-ended ts (parsed ts) left refl h
+expr-stops ts left h = stuck-ended exact-expr ts (parsed ts) left refl h
 
--- a place at which the tokens leave the grammar is the fault of the text
-pub fault-of : (text : List ℕ) (tokens : List Token) (fault : ParseFault) → IsTokens text tokens → length tokens ≤ most_tokens →
-    GrammarFault text tokens fault → IsFaultOf text fault
-fault-of text tokens (Fault at) cut few h = no_text_goes_on h.0 cut few h.1 h.2
-fault-of text tokens Memory cut few h = tt
+pub statement-read : (ts : List Kind) (d : Ddl) → whole_statement ts ≡ got d [] → IsStatement ts d
+unfolding whole_statement
+statement-read ts d h = read-ended exact-statement ts (statement_parsed ts) d refl h
 
-pub reading-of : (text alias : List ℕ) (tokens : List Token) (x : Phrase) (e : Expr) → IsTokens text tokens → length tokens ≤ most_tokens →
-    IsWhole (kinds_of tokens) x → e ≡ resolved x (outermost alias) → IsReading text alias e
-reading-of text alias tokens x e cut few whole meaning =
-    record { tokens = tokens; cut = cut; few = few; phrase = x; whole = whole; meaning = meaning }
+pub statement-stops : (ts : List Kind) (left : ℕ) → whole_statement ts ≡ stuck left → StopsIn FollowsDdl ts (Fault left)
+unfolding whole_statement
+statement-stops ts left h = stuck-ended exact-statement ts (statement_parsed ts) left refl h
 
-pub reading-formed : (text alias : List ℕ) (e : Expr) → IsReading text alias e → IsWellFormed e
-reading-formed text alias e r = subst IsWellFormed (sym r.meaning) (whole-formed (kinds_of r.tokens) r.phrase (outermost alias) r.whole)
+-- what a whole list gives: its tree, or where reading stops
+pub expr-given : (ts kinds : List Kind) (r : Result Phrase Stop) → ts ≡ kinds → Gives (parsed_whole ts) r [] →
+    IfOk r (IsWhole kinds) × IfErr r (StopsIn FollowsExpr kinds)
+expr-given ts kinds (Ok x) same h = (subst (λ us. IsWhole us x) same (expr-read ts x h), tt)
+expr-given ts kinds (Err (Fault left)) same h = (tt, subst (λ us. StopsIn FollowsExpr us (Fault left)) same (expr-stops ts left h))
+expr-given ts kinds (Err Memory) same h = (tt, tt)
 
-pub reading-plain : (text alias : List ℕ) (e : Expr) → IsReading text alias e → HasNoAggregate e
-reading-plain text alias e r = subst HasNoAggregate (sym r.meaning) (whole-plain (kinds_of r.tokens) r.phrase (outermost alias) r.whole)
+pub statement-given : (ts kinds : List Kind) (r : Result Ddl Stop) → ts ≡ kinds → Gives (whole_statement ts) r [] →
+    IfOk r (IsStatement kinds) × IfErr r (StopsIn FollowsDdl kinds)
+statement-given ts kinds (Ok d) same h = (subst (λ us. IsStatement us d) same (statement-read ts d h), tt)
+statement-given ts kinds (Err (Fault left)) same h = (tt, subst (λ us. StopsIn FollowsDdl us (Fault left)) same (statement-stops ts left h))
+statement-given ts kinds (Err Memory) same h = (tt, tt)
+
+-- reading stops among the tokens of the text
+pub left-of : (Follows : List Kind → Type 0) (tokens : List Token) (stop : Stop) → StopsIn Follows (kinds_of tokens) stop → LeftOf (length tokens) stop
+left-of Follows tokens (Fault left) h = subst (λ n. left ≤ n) (length-map tokens (λ (token : Token). kind_of token.kind)) h.0
+left-of Follows tokens Memory h = tt
+
+-- and the fault of the text is there
+pub fault-of : (Follows : List Kind → Type 0) (text : List ℕ) (tokens : List Token) (stop : Stop) → IsTokens text tokens → length tokens ≤ most_tokens →
+    StopsIn Follows (kinds_of tokens) stop → OnPlace (IsFaultIn Follows text) (fault_at text tokens stop)
+fault-of Follows text tokens (Fault left) cut few h =
+    no_text_goes_on (length tokens - left) cut few
+    (subst (λ n. Leaves Follows (kinds_of tokens) (n - left)) (length-map tokens (λ (token : Token). kind_of token.kind)) h.1)
+    refl
+fault-of Follows text tokens Memory cut few h = tt
+
+-- a text without few tokens has its fault there
+pub token-fault : (Follows : List Kind → Type 0) (text : List ℕ) (at : ParseFault) → OnPlace (IsTokenFault text) at → OnPlace (IsFaultIn Follows text) at
+token-fault Follows text (fault.Fault at) h = not_few_tokens h
+token-fault Follows text fault.Memory h = tt

@@ -1,10 +1,14 @@
--- The place of the fault of a text that is no expression.
-use Rattle.std.specs.Prelude.{◌≡◌, ℕ, ◌≤◌, ◌<◌, List, [], ◌∷◌, length, drop, ⊤}
+-- The place of the fault of a text that has no tree.
+use Rattle.std.specs.Prelude.{◌≡◌, ℕ, ◌-◌, ◌≤◌, ◌<◌, List, [], ◌∷◌, length, drop, ⊤}
 use Rattle.n1ql_lex.specs.declared.token.Token.{Token}
 use Rattle.n1ql_lex.specs.Tokens.{IsFault, IsTokens}
+use Rattle.n1ql_ast.specs.declared.kind.Kind.{Kind}
 use Rattle.n1ql_ast.specs.Faults.{FollowsExpr, Leaves}
+use Rattle.n1ql_ast.specs.Statements.{FollowsDdl}
 use Rattle.n1ql_parse.specs.declared.parse_fault.ParseFault.{ParseFault}
 use Rattle.n1ql_parse.specs.declared.parse_fault.ParseFault.TheVariants.{Fault, Memory}
+use Rattle.n1ql_parse.specs.declared.stop.Stop.{Stop}
+use Rattle.n1ql_parse.specs.declared.stop.Stop.TheVariants as stop
 use Rattle.n1ql_parse.specs.Input.{kinds_of}
 use Rattle.n1ql_parse.specs.Readings.{most_tokens}
 
@@ -17,21 +21,49 @@ start_of text (token ∷ tokens) = token.start
 abbrev pub place_of : List ℕ → List Token → ℕ → ℕ
 place_of text tokens n = start_of text (drop n tokens)
 
--- The first of these: what is no token; the first token of too many; where the tokens leave the grammar.
-pub data IsFaultAt (text : List ℕ) (at : ℕ) : Type 0 where
-  no_token : IsFault text at → IsFaultAt text at
+-- What keeps a text from having few tokens: what is no token, or the first token of too many.
+pub data IsTokenFault (text : List ℕ) (at : ℕ) : Type 0 where
+  no_token : IsFault text at → IsTokenFault text at
   too_many : {tokens : List Token} →
-      IsTokens text tokens → most_tokens < length tokens → at ≡ place_of text tokens most_tokens → IsFaultAt text at
+      IsTokens text tokens → most_tokens < length tokens → at ≡ place_of text tokens most_tokens → IsTokenFault text at
+
+-- Such a fault, or else the place where the few tokens leave a language, which is given by the lists that follow it.
+pub data IsFaultIn (Follows : List Kind → Type 0) (text : List ℕ) (at : ℕ) : Type 0 where
+  not_few_tokens : IsTokenFault text at → IsFaultIn Follows text at
   no_text_goes_on : {tokens : List Token} (n : ℕ) →
-      IsTokens text tokens → length tokens ≤ most_tokens → Leaves FollowsExpr (kinds_of tokens) n → at ≡ place_of text tokens n →
-      IsFaultAt text at
+      IsTokens text tokens → length tokens ≤ most_tokens → Leaves Follows (kinds_of tokens) n → at ≡ place_of text tokens n →
+      IsFaultIn Follows text at
 
--- a fault stands where the text has one; want of memory may come at any text
+-- the place of the fault of a text that is no expression
+abbrev pub IsFaultAt : List ℕ → ℕ → Type 0
+IsFaultAt text at = IsFaultIn FollowsExpr text at
+
+-- the place of the fault of a text that is no statement on indexes
+abbrev pub IsDdlFaultAt : List ℕ → ℕ → Type 0
+IsDdlFaultAt text at = IsFaultIn FollowsDdl text at
+
+-- what holds of the place of a fault; want of memory may come at any text
+abbrev pub OnPlace : (ℕ → Type 0) → ParseFault → Type 0
+OnPlace Is (Fault at) = Is at
+OnPlace Is Memory = ⊤
+
+-- a fault stands where the text has one
 abbrev pub IsFaultOf : List ℕ → ParseFault → Type 0
-IsFaultOf text (Fault at) = IsFaultAt text at
-IsFaultOf text Memory = ⊤
+IsFaultOf text fault = OnPlace (IsFaultAt text) fault
 
--- for private clauses: the place at which the tokens of a text leave the grammar
-abbrev pub GrammarFault : List ℕ → List Token → ParseFault → Type 0
-GrammarFault text tokens (Fault at) = (n : ℕ) × Leaves FollowsExpr (kinds_of tokens) n × (at ≡ place_of text tokens n)
-GrammarFault text tokens Memory = ⊤
+abbrev pub IsDdlFaultOf : List ℕ → ParseFault → Type 0
+IsDdlFaultOf text fault = OnPlace (IsDdlFaultAt text) fault
+
+-- for private clauses: no more tokens are left than there are, and the tokens leave the language where so many are left
+abbrev pub LeftOf : ℕ → Stop → Type 0
+LeftOf n (stop.Fault left) = left ≤ n
+LeftOf n stop.Memory = ⊤
+
+abbrev pub StopsIn : (List Kind → Type 0) → List Kind → Stop → Type 0
+StopsIn Follows ts (stop.Fault left) = (left ≤ length ts) × Leaves Follows ts (length ts - left)
+StopsIn Follows ts stop.Memory = ⊤
+
+-- for private clauses: the fault of a text of these tokens at which reading stopped
+abbrev pub fault_at : List ℕ → List Token → Stop → ParseFault
+fault_at text tokens (stop.Fault left) = Fault (place_of text tokens (length tokens - left))
+fault_at text tokens stop.Memory = Memory

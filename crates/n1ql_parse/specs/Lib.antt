@@ -4,3 +4,5 @@ pub mod Faults
 pub mod Steps
 pub mod Parser
 pub mod Nests
+pub mod Statements
+pub mod Formed

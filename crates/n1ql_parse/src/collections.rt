@@ -100,7 +100,7 @@ impl<F: Fn(Global, &mut Cursor<'_>, usize, bool, Level) -> Result<Boxed<Phrase>,
     /// What comes after ARRAY and FIRST.
     #[tactic(auto, unfolding(crate::specs::Parser::each))]
     #[inline(never)]
-    fn each(&self, tokens: &mut Cursor<'_>) -> Result<Each, Stop>
+    pub fn each(&self, tokens: &mut Cursor<'_>) -> Result<Each, Stop>
         requires { Nests self.now.fuel (F.pre self.now.inner) (F.post self.now.inner) }
         ensures { Gives (spec.each (spec.at self.now.fuel) self.now.agg tokens.old) result tokens.new }
     {

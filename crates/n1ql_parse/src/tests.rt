@@ -251,8 +251,9 @@ fn show_inside(out: &mut String, e: &Expr) -> Result<(), AllocError> {
     }
 }
 
+/// The tree of an expression in prefix form.
 #[cycle(show)]
-fn show(out: &mut String, e: &Expr) -> Result<(), AllocError> {
+pub fn show(out: &mut String, e: &Expr) -> Result<(), AllocError> {
     match e {
         Expr::Const(value) => show_value(out, value),
         Expr::Doc => out.push_str("doc"),

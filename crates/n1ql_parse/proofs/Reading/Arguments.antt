@@ -46,10 +46,6 @@ less_below fun.ToString n h = lt-ltb n 1 h
 less_below fun.TypeOf n h = lt-ltb n 1 h
 less_below _ n h = refl
 
-fewer : (most : Option ℕ) (m n : ℕ) → IsUpTo most n → m ≤ n → IsUpTo most m
-fewer (Some most) m n h l = omega arith
-fewer None m n h l = search
-
 one_fits : (f : Fun) → IsUpTo (most_count f) 1
 one_fits fun.Abs = omega arith
 one_fits fun.ArrayLength = omega arith

@@ -131,7 +131,7 @@ when_from : (agg : Bool) (us vs : List Kind) (y : Option Phrase) → MayWhen agg
 when_from agg us vs y (g.when_some p) = one (behind (seq _ _ p none_taken))
 when_from agg us vs y g.when_none = other none_taken
 
-stops_less : (m n : ℕ) → m ≤ n → (us : List Kind) → Stops (up_to n) us → Stops (up_to m) us
+pub stops_less : (m n : ℕ) → m ≤ n → (us : List Kind) → Stops (up_to n) us → Stops (up_to m) us
 stops_less m n h [] st = tt
 stops_less m n h (t ∷ us) st = tighter_stops m n h t st
 

@@ -12,7 +12,6 @@ use Rattle.n1ql_ast.specs.Operators.{compare_of, add_of, mul_of}
 use Rattle.n1ql_ast.specs.Grammar.{IsExpr, IsAnd, IsNot, IsRel, IsAdd, IsMul, IsNeg, IsPost}
 use Rattle.n1ql_parse.specs.declared.level.Level.{Level}
 use Rattle.n1ql_parse.specs.declared.level.Level.TheVariants as level
-use Rattle.n1ql_parse.specs.Parser.{or_of, and_of}
 use Rattle.n1ql_parse.proofs.Reading.Fronts.{Rel}
 
 -- how loosely a token goes on with what stands before it
@@ -42,7 +41,10 @@ rank (Mark mark.Or) = 7
 rank (Mark mark.Comma) = 8
 rank (Mark mark.When) = 8
 rank (Mark mark.Else) = 9
-rank _ = 10
+rank (Mark mark.Where) = 10
+rank (Mark mark.Using) = 11
+rank (Mark mark.With) = 12
+rank _ = 13
 
 -- tokens that go on with a phrase of this tightness
 abbrev pub up_to : ℕ → Kind → Bool
@@ -78,14 +80,6 @@ IsAt agg level.Add = IsAdd agg
 IsAt agg level.Mul = IsMul agg
 IsAt agg level.Neg = IsNeg agg
 IsAt agg level.Post = IsPost agg
-
-pub or_rank : (m : AnyMark) (o : Op) → or_of m ≡ Some o → m ≡ mark.Or
-or_rank mark.Or o e = refl
-or_rank _ o e = cc
-
-pub and_rank : (m : AnyMark) (o : Op) → and_of m ≡ Some o → m ≡ mark.And
-and_rank mark.And o e = refl
-and_rank _ o e = cc
 
 pub add_rank : (m : AnyMark) (o : Op) → add_of m ≡ Some o → rank (Mark m) ≡ 4
 add_rank mark.Plus o e = refl

@@ -24,14 +24,14 @@ use Rattle.n1ql_parse.proofs.Reading.Choices.{within_then}
 
 -- A mark and more, or what was found: the form of each of these loops.
 
-may_more : {A : Type 0} {n : ℕ} (m : AnyMark) → up_to 8 (Mark m) ≡ true → (x : A) {R : Rel A} {p : Parser A} → Within n (up_to 8) R p →
+pub may_more : {A : Type 0} {n : ℕ} (m : AnyMark) → up_to 8 (Mark m) ≡ true → (x : A) {R : Rel A} {p : Parser A} → Within n (up_to 8) R p →
     Within (suc n) (up_to 8) (Either (Then m R) (Pure x)) (λ ts. and_then (eat m ts) (λ more. if more then p else (λ us. got x us)))
 may_more {A = A} m goes x w = within_eat m w (within_pure x) off
   where
     off : (us vs : List Kind) (y : A) → Pure x (Mark m ∷ us) y vs → Stops (up_to 8) vs → ⊥
     off us _ _ none_taken st = let h : true ≡ false = sym goes ∙ st in cc
 
-links_may_more : {A : Type 0} (m : AnyMark) → up_to 7 (Mark m) ≡ false → (x : A) {R : Rel A} → Links (up_to 7) (up_to 8) (Either (Then m R) (Pure x))
+pub links_may_more : {A : Type 0} (m : AnyMark) → up_to 7 (Mark m) ≡ false → (x : A) {R : Rel A} → Links (up_to 7) (up_to 8) (Either (Then m R) (Pure x))
 links_may_more m off x = links_either (links_then off) (links_pure (tighter_stops 7 8 (omega arith)))
 
 empty : {ts : List Kind} → length ts < 1 → ts ≡ []

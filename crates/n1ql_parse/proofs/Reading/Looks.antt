@@ -160,9 +160,6 @@ name_required f (Str text ∷ ts) = refl
 name_required f (Num n ∷ ts) = refl
 name_required f (Other ∷ ts) = refl
 
-abbrev pub Named : {A : Type 0} → (List ℕ → Rel A) → Rel A
-Named R = Worded (λ w. R w.text)
-
 pub within_name : {A : Type 0} {n : ℕ} {goes : Kind → Bool} {R : List ℕ → Rel A} {f : List ℕ → Parser A} → ((text : List ℕ) → Within n goes (R text) (f text)) →
     Completes (R []) → Within (suc n) goes (Worded (λ w. R w.text)) (λ ts. and_then (name ts) f)
 within_name {R = R} {f = f} w k = within_eq (within_word {R = λ w. R w.text} {f = λ w. f w.text} (λ c. w c.text) k) (name_required f)

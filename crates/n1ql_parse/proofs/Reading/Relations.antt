@@ -172,10 +172,6 @@ module _ (inner : Bool → Level → Parser Phrase) (agg : Bool) where
       (within_may mark.In (within_among n w x) (within_then mark.Between (within_between n w x) (completes_betweens x)) (λ us vs y r st. elim r [ ]))
       (range_of x) (λ us vs y q st. (of_range x us vs y q, st))
 
-  completes_range : (x : Phrase) → Completes (IsRange agg x)
-  completes_range x = let c = completes_at agg level.Add in
-      record { more = Mark mark.In ∷ c.more; tree = phrase.Among x c.tree; reads = λ us. g.range_in (c.reads us) }
-
   -- what NOT stands before
   abbrev Denied : Rel Phrase → Rel Phrase
   Denied R = Seq R (λ y. Pure (phrase.Not y))

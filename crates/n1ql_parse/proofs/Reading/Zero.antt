@@ -13,7 +13,7 @@ use Rattle.n1ql_parse.specs.declared.level.Level.TheVariants as level
 use Rattle.n1ql_parse.proofs.Reading.Fronts.{Completes}
 use Rattle.n1ql_parse.proofs.Reading.Levels.{IsAt}
 
-abbrev zero_phrase : Phrase
+abbrev pub zero_phrase : Phrase
 zero_phrase = phrase.Const (value.Int (pos 0))
 
 zero_prim : (agg : Bool) (us : List Kind) → IsPrim agg (Num 0 ∷ us) zero_phrase us
@@ -40,11 +40,8 @@ zero_not agg us = g.not_rel (zero_rel agg us)
 zero_and : (agg : Bool) (us : List Kind) → IsAnd agg (Num 0 ∷ us) zero_phrase us
 zero_and agg us = g.and (zero_not agg us) g.and_done
 
-zero_expr : (agg : Bool) (us : List Kind) → IsExpr agg (Num 0 ∷ us) zero_phrase us
+pub zero_expr : (agg : Bool) (us : List Kind) → IsExpr agg (Num 0 ∷ us) zero_phrase us
 zero_expr agg us = g.expr (zero_and agg us) g.or_done
-
-pub completes_prim : (agg : Bool) → Completes (IsPrim agg)
-completes_prim agg = record { more = Num 0 ∷ []; tree = zero_phrase; reads = zero_prim agg }
 
 pub completes_at : (agg : Bool) (l : Level) → Completes (IsAt agg l)
 completes_at agg level.Or = record { more = Num 0 ∷ []; tree = zero_phrase; reads = zero_expr agg }

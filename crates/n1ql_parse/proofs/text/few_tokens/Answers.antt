@@ -1,7 +1,7 @@
 use Rattle.std.proofs.Common.{ap, ◌∙◌, ◌<◌, length, arith}
 use Rattle.n1ql_parse.specs.Faults.{place_of, too_many}
 use Rattle.n1ql_parse.specs.Readings.{most_tokens}
-use Rattle.n1ql_parse.proofs.text.expr.Goals as goal
+use Rattle.n1ql_parse.proofs.text.few_tokens.Goals as goal
 
 pub returns-in-Ok-clause-fault : goal.returns-in-Ok-clause-fault
 returns-in-Ok-clause-fault c =
