@@ -4,7 +4,8 @@ use Rattle.std.specs.FinMap as map
 use Rattle.n1ql_value.specs.declared.row.Row.{Row}
 use Rattle.n1ql_value.specs.declared.value.Value.{Value}
 use Rattle.vb_store.specs.declared.mutation.Mutation.{Mutation}
-use Rattle.vb_store.specs.Documents.{Documents, with_body, with_mutation, with_mutations}
+use Rattle.n1ql_value.specs.Documents.{Documents}
+use Rattle.vb_store.specs.Documents.{with_body, with_mutation, with_mutations}
 use Rattle.index_state.specs.RowsById.{RowsById, with_rows}
 use Rattle.index_def.specs.declared.definition.IndexDef.{IndexDef}
 use Rattle.index_def.specs.Keys.{keys_of, keys_of_body}

@@ -7,7 +7,8 @@ ghost use Rattle.vb_store.specs.Documents.{with_mutation, with_mutations};
 ghost use Rattle.index_state.specs.RowsById.{all_rows};
 ghost use Rattle.index_def.specs.Forms.{IsFormed};
 ghost use Rattle.index_def.specs.Keys.{keys_of};
-ghost use Rattle.index_state.specs.Index.{Documents, HoldsKeys};
+ghost use Rattle.n1ql_value.specs.Documents.{Documents};
+ghost use Rattle.index_state.specs.Index.{HoldsKeys};
 ghost use Rattle.gsi_sched.specs.Replay.{catch_up};
 ghost use Rattle.gsi_sched.specs.Run.{StandsFor, shown, publications, board_after};
 

@@ -7,9 +7,10 @@ use Rattle.n1ql_ast.specs.declared.create.Create.{Create}
 use Rattle.n1ql_ast.specs.declared.expr.Expr.{Expr, fold-Expr, fold-roll-Expr, ind-Expr, map-Expr, out-Expr, out-roll-Expr, roll-Expr}
 use Rattle.n1ql_ast.specs.declared.expr.Expr.TheOpen.{Expr-F}
 use Rattle.n1ql_ast.specs.Conjunction.{conjuncts_of, operands_in}
+use Rattle.n1ql_ast.specs.FormedStatements.{IsEvaluable, IsFormedCreate}
 use Rattle.n1ql_ast.specs.Forms.{has_its_counts, has_no_aggregate, is_no_aggregate, is_well_formed, of_each_part}
 use Rattle.index_def.specs.Definitions.{conjuncts_in, definition_of}
-use Rattle.index_def.specs.Forms.{IsEvaluable, IsFormed, IsFormedCreate}
+use Rattle.index_def.specs.Forms.{IsFormed}
 
 both : (a b : Bool) → IsTrue (a && b) → IsTrue a × IsTrue b
 both true b h = (refl, h)

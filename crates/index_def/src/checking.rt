@@ -1,6 +1,7 @@
 ghost use Rattle.std.specs.Prelude.{◌≡◌, ◌↔◌, Some, Err, IfOk};
 ghost use Rattle.index_def.specs.Definitions as spec;
-ghost use Rattle.index_def.specs.Forms.{IsFormed, IsFormedCreate};
+ghost use Rattle.n1ql_ast.specs.FormedStatements.{IsFormedCreate};
+ghost use Rattle.index_def.specs.Forms.{IsFormed};
 ghost use Rattle.index_def.specs.Reasons as reasons;
 
 use crate::copies::copied_keys;

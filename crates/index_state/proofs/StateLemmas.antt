@@ -19,7 +19,8 @@ use Rattle.n1ql_value.specs.RowLaws.{row_cmp-total, row_cmp-exact}
 use Rattle.n1ql_value.specs.SortedLists.{sort_of, with_all, without_all}
 use Rattle.n1ql_value.proofs.SortedListLaws.{without_all-with_all, equal_of}
 use Rattle.index_state.specs.RowsById.{RowsById, rows_at, with_rows, all_rows, held_by}
-use Rattle.index_state.specs.Index.{Documents, index_by, keys_at, HoldsKeys}
+use Rattle.n1ql_value.specs.Documents.{Documents, index_by}
+use Rattle.index_state.specs.Index.{keys_at, HoldsKeys}
 use Rattle.index_state.proofs.EntryLemmas.{pieces, remove-insert, get_same-insert, same_pieces, sort_of-entries, mapped, is_sorted-mapped, find-mapped, pieces-mapped}
 
 bytes_cmp : List ℕ → List ℕ → Ordering

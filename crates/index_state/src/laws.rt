@@ -4,7 +4,8 @@ ghost use Rattle.std.specs.FinMap as map;
 ghost use Rattle.n1ql_value.specs.declared.row.Row.{Row};
 ghost use Rattle.n1ql_value.specs.declared.value.Value.{Value};
 ghost use Rattle.index_state.specs.RowsById.{RowsById, with_rows, all_rows};
-ghost use Rattle.index_state.specs.Index.{Documents, index_by, HoldsKeys};
+ghost use Rattle.n1ql_value.specs.Documents.{Documents, index_by};
+ghost use Rattle.index_state.specs.Index.{HoldsKeys};
 
 /// Where each id holds the rows of its document, all rows together are the index of the documents.
 pub fn rows_are_the_index()

@@ -5,7 +5,7 @@ ghost use Rattle.std.specs.List.{filter};
 ghost use Rattle.std.specs.Option.{option_map, option_map_or};
 ghost use Rattle.n1ql_ast.specs.Evaluation.{passes, value_at_element, value_of};
 ghost use Rattle.n1ql_value.specs.Kinds.{is_true};
-ghost use Rattle.index_def.specs.Forms.{IsEvaluable};
+ghost use Rattle.n1ql_ast.specs.FormedStatements.{IsEvaluable};
 ghost use Rattle.index_def.specs.Keys.{elements_in};
 
 use n1ql_ast::Expr;

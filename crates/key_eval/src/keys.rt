@@ -4,7 +4,8 @@ ghost use Rattle.n1ql_value.specs.Collation.{row_cmp};
 ghost use Rattle.n1ql_value.specs.Kinds.{is_true};
 ghost use Rattle.n1ql_value.specs.SortedLists.{sort_of};
 ghost use Rattle.n1ql_ast.specs.Evaluation.{on_document, value_of};
-ghost use Rattle.index_def.specs.Forms.{IsEvaluable, IsFormed, IsFormedKey};
+ghost use Rattle.n1ql_ast.specs.FormedStatements.{IsEvaluable, IsFormedKey};
+ghost use Rattle.index_def.specs.Forms.{IsFormed};
 ghost use Rattle.index_def.specs.Keys as spec;
 ghost use Rattle.key_eval.specs.Neighbours.{neighbours_once};
 

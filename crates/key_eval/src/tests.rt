@@ -1,6 +1,7 @@
 ghost use Rattle.std.specs.Prelude.{IfOk, [], ◌∷◌};
 ghost use Rattle.std.specs.List.{All};
-ghost use Rattle.index_def.specs.Forms.{IsEvaluable, IsFormed, IsFormedKey};
+ghost use Rattle.n1ql_ast.specs.FormedStatements.{IsEvaluable, IsFormedKey};
+ghost use Rattle.index_def.specs.Forms.{IsFormed};
 
 use crate::keys_of;
 use index_def::IndexDef;

@@ -3,7 +3,7 @@
 ghost use Rattle.std.specs.Prelude.{◌≡◌, ◌++◌, ◌∷◌, [], map, IfOk, OnOk};
 ghost use Rattle.std.specs.List.{All};
 ghost use Rattle.n1ql_value.specs.Datum.{datum_of};
-ghost use Rattle.index_def.specs.Forms.{IsFormedKey};
+ghost use Rattle.n1ql_ast.specs.FormedStatements.{IsFormedKey};
 ghost use Rattle.index_def.specs.Keys as spec;
 ghost use Rattle.key_eval.specs.Tuples.{extended};
 

@@ -1,6 +1,6 @@
 ghost use Rattle.std.specs.Prelude.{◌≡◌, ◌∷◌, [], IfOk, OnOk};
 ghost use Rattle.n1ql_ast.specs.Evaluation.{value_of};
-ghost use Rattle.index_def.specs.Forms.{IsEvaluable, IsFormedKey};
+ghost use Rattle.n1ql_ast.specs.FormedStatements.{IsEvaluable, IsFormedKey};
 ghost use Rattle.index_def.specs.Keys as spec;
 
 use crate::elements::values_over;

@@ -8,3 +8,4 @@ pub mod Evaluation
 pub mod Forms
 pub mod Conjunction
 pub mod Statements
+pub mod FormedStatements

@@ -12,11 +12,11 @@ use Rattle.n1ql_ast.specs.declared.kind.Kind.{Kind}
 use Rattle.n1ql_ast.specs.declared.phrase.Phrase.{Phrase}
 use Rattle.n1ql_ast.specs.declared.scope.Scope.{Scope}
 use Rattle.n1ql_ast.specs.Forms.{has_its_counts, is_no_aggregate}
+use Rattle.n1ql_ast.specs.FormedStatements.{IsEvaluable, IsFormedCreate, IsFormedDdl, IsFormedKey}
 use Rattle.n1ql_ast.specs.Grammar.{IsExpr, IsObject, IsEach}
 use Rattle.n1ql_ast.specs.Names.{outermost, inside, resolved}
 use Rattle.n1ql_ast.specs.Statements as s
 use Rattle.n1ql_ast.specs.Statements.{MayWith, MayWhere, IsKey, IsKeys, MoreKeys, IsDdl, array_key, primary_index, primary_key}
-use Rattle.n1ql_parse.specs.Formed.{IsEvaluable, IsFormedKey, IsFormedDdl}
 use Rattle.n1ql_parse.proofs.Formed.{kept, kept-object, kept-each}
 use Rattle.n1ql_parse.proofs.Kept.{Keeps, KeepsIfAny, field-holds, meta-holds}
 use Rattle.n1ql_parse.proofs.Whole.{allows-counts, allows-plain}
@@ -73,12 +73,12 @@ primary_key-formed = (
 )
 
 primary-formed : (name : Option (List ℕ)) (keyspace : List ℕ) (options : Option Expr) → IfSome options IsEvaluable →
-    All IsFormedKey (primary_index name keyspace options).keys × IfSome (primary_index name keyspace options).filter IsEvaluable × IfSome (primary_index name keyspace options).options IsEvaluable
-primary-formed None keyspace options h = (All-cons IsFormedKey primary_key [] primary_key-formed (All-nil IsFormedKey), tt, h)
-primary-formed (Some name) keyspace options h = (All-cons IsFormedKey primary_key [] primary_key-formed (All-nil IsFormedKey), tt, h)
+    IsFormedCreate (primary_index name keyspace options)
+primary-formed None keyspace options h = record { keys = All-cons IsFormedKey primary_key [] primary_key-formed (All-nil IsFormedKey); filter = tt; options = h }
+primary-formed (Some name) keyspace options h = record { keys = All-cons IsFormedKey primary_key [] primary_key-formed (All-nil IsFormedKey); filter = tt; options = h }
 
 pub ddl-formed : {ts rest : List Kind} {d : Ddl} → IsDdl ts d rest → IsFormedDdl d
-ddl-formed (s.ddl_create p q r w) = (keys-formed p, where-formed q, with-formed w)
+ddl-formed (s.ddl_create p q r w) = record { keys = keys-formed p; filter = where-formed q; options = with-formed w }
 ddl-formed (s.ddl_primary {name = name} {keyspace = keyspace} {options = options} p q r) = primary-formed name keyspace options (with-formed r)
 ddl-formed (s.ddl_build p q) = tt
 ddl-formed (s.ddl_drop q) = tt

@@ -3,8 +3,8 @@ use Rattle.std.specs.Prelude.{◌≡◌, ℕ, ◌-◌, ◌≤◌, List, [], ◌�
 use Rattle.n1ql_ast.specs.declared.ddl.Ddl.{Ddl}
 use Rattle.n1ql_ast.specs.declared.kind.Kind.{Kind}
 use Rattle.n1ql_ast.specs.Faults.{Leaves}
+use Rattle.n1ql_ast.specs.FormedStatements.{IsFormedDdl}
 use Rattle.n1ql_ast.specs.Statements.{IsDdl, IsStatement, FollowsDdl}
-use Rattle.n1ql_parse.specs.Formed.{IsFormedDdl}
 use Rattle.n1ql_parse.specs.Statements.{statement_parsed}
 use Rattle.n1ql_parse.specs.Steps.{got, stuck}
 use Rattle.n1ql_parse.proofs.Evaluable.{ddl-formed}

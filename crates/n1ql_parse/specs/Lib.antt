@@ -5,4 +5,3 @@ pub mod Steps
 pub mod Parser
 pub mod Nests
 pub mod Statements
-pub mod Formed

@@ -1,10 +1,10 @@
 //! Statements on indexes, of texts.
 
 ghost use Rattle.std.specs.Prelude.{◌≤◌, [], IfErr, IfOk, length};
+ghost use Rattle.n1ql_ast.specs.FormedStatements.{IsFormedDdl};
 ghost use Rattle.n1ql_ast.specs.Statements.{FollowsDdl, IsStatement};
 ghost use Rattle.n1ql_lex.specs.Tokens.{IsTokens};
 ghost use Rattle.n1ql_parse.specs.Faults.{IsDdlFaultOf, StopsIn};
-ghost use Rattle.n1ql_parse.specs.Formed.{IsFormedDdl};
 ghost use Rattle.n1ql_parse.specs.Input.{kinds_of};
 ghost use Rattle.n1ql_parse.specs.Readings.{IsReadingDdl, most_tokens};
 ghost use Rattle.n1ql_parse.specs.Statements as spec;

@@ -11,6 +11,7 @@ pub mod CollationOfValues
 pub mod Ranges
 pub mod RowLaws
 pub mod SortedLists
+pub mod Documents
 pub mod Places
 pub mod Functions
 pub mod Kinds

@@ -6,7 +6,8 @@ use Rattle.n1ql_value.specs.declared.row.Row.{Row}
 use Rattle.vb_store.specs.declared.mutation.Mutation.{Mutation}
 use Rattle.vb_store.specs.Documents.{documents_at}
 use Rattle.index_def.specs.declared.definition.IndexDef.{IndexDef}
-use Rattle.index_def.specs.Index.{Documents, index_of, scan_of}
+use Rattle.n1ql_value.specs.Documents.{Documents}
+use Rattle.index_def.specs.Index.{index_of, scan_of}
 use Rattle.scan_history.specs.declared.command.Command.{Command}
 use Rattle.scan_history.specs.declared.command.Command.TheVariants.{Upsert, Delete, Ddl, Scan}
 use Rattle.scan_history.specs.declared.script.Script.{Script}

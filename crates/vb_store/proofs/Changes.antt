@@ -20,7 +20,8 @@ use Rattle.n1ql_value.specs.declared.value.Value.{Value}
 use Rattle.seq_vector.specs.Vectors.{vbucket_of, IsCovered}
 use Rattle.vb_store.specs.declared.mutation.Mutation.{Mutation}
 use Rattle.vb_store.specs.Mutations.{of_vbucket, count_of, IsNumberedBehind, IsNumbered, high_of, slice_of, current_of}
-use Rattle.vb_store.specs.Documents.{Documents, with_body, with_mutation, with_mutations, reaches, documents_at, body_of}
+use Rattle.n1ql_value.specs.Documents.{Documents}
+use Rattle.vb_store.specs.Documents.{with_body, with_mutation, with_mutations, reaches, documents_at, body_of}
 use Rattle.vb_store.proofs.Numbering.{numbered_parts, of_vbucket-append, slice_of-places, entry-high_of, entry-high_of-le, count_of-append, count_of-cons, count_of-push, leb_from_lt, ltb_from_le}
 
 abbrev is_same : List ℕ → List ℕ → Bool

@@ -1,16 +1,11 @@
 -- The documents that stand at a vector.
 use Rattle.std.specs.Prelude.{ℕ, List, Bool, Option, Some, None, nat_le}
 use Rattle.std.specs.List.{filter, fold}
-use Rattle.std.specs.Ordering.{nat_cmp}
-use Rattle.std.specs.Cmp.Lexicographic.{slice_cmp}
 use Rattle.std.specs.FinMap as map
 use Rattle.n1ql_value.specs.declared.value.Value.{Value}
+use Rattle.n1ql_value.specs.Documents.{Documents}
 use Rattle.seq_vector.specs.Vectors.{entry}
 use Rattle.vb_store.specs.declared.mutation.Mutation.{Mutation}
-
--- documents by their ids, in byte order
-abbrev pub Documents : Type 0
-Documents = map.FinMap (slice_cmp nat_cmp) Value
 
 -- the documents with this body under the id, or with none
 abbrev pub with_body : Documents → List ℕ → Option Value → Documents

@@ -1,7 +1,8 @@
 use Rattle.std.proofs.Common.{◌≡◌, Some, slice_get, sym, ap, ◌∙◌, subst, take}
 use Rattle.std.proofs.lemmas.Result.{on_ok_weaker}
 use Rattle.std.specs.FinMap as map
-use Rattle.vb_store.specs.Documents.{Documents, with_mutations}
+use Rattle.n1ql_value.specs.Documents.{Documents}
+use Rattle.vb_store.specs.Documents.{with_mutations}
 use Rattle.vb_store.specs.declared.mutation.Mutation.{Mutation}
 use Rattle.index_def.specs.Keys.{keys_of}
 use Rattle.index_state.specs.Index.{HoldsKeys}

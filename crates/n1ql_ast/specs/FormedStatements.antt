@@ -1,6 +1,7 @@
--- What holds of each expression in a statement on indexes.
+-- The form of statements on indexes: each expression in them can be evaluated.
 use Rattle.std.specs.Prelude.{IfSome, ⊤}
 use Rattle.std.specs.List.{All}
+use Rattle.n1ql_ast.specs.declared.create.Create.{Create}
 use Rattle.n1ql_ast.specs.declared.ddl.Ddl.{Ddl}
 use Rattle.n1ql_ast.specs.declared.ddl.Ddl.TheVariants as ddl
 use Rattle.n1ql_ast.specs.declared.expr.Expr.{Expr}
@@ -8,7 +9,7 @@ use Rattle.n1ql_ast.specs.declared.key.Key.{Key}
 use Rattle.n1ql_ast.specs.declared.key.Key.TheVariants as key
 use Rattle.n1ql_ast.specs.Forms.{HasNoAggregate, IsWellFormed}
 
--- it is well formed, and no aggregate stands in it
+-- an expression that can be evaluated on a document: it is well formed, and no aggregate stands in it
 abbrev pub IsEvaluable : Expr → Type 0
 IsEvaluable e = IsWellFormed e × HasNoAggregate e
 
@@ -17,7 +18,13 @@ abbrev pub IsFormedKey : Key → Type 0
 IsFormedKey (key.Plain e) = IsEvaluable e
 IsFormedKey (key.Each distinct item var over when) = IsEvaluable item × IsEvaluable over × IfSome when IsEvaluable
 
+-- so is each expression of a definition
+pub record IsFormedCreate (c : Create) : Type 0 where
+  pub keys : All IsFormedKey c.keys
+  pub filter : IfSome c.filter IsEvaluable
+  pub options : IfSome c.options IsEvaluable
+
 -- so is each expression of a statement
 abbrev pub IsFormedDdl : Ddl → Type 0
-IsFormedDdl (ddl.Create c) = All IsFormedKey c.keys × IfSome c.filter IsEvaluable × IfSome c.options IsEvaluable
+IsFormedDdl (ddl.Create c) = IsFormedCreate c
 IsFormedDdl _ = ⊤
