@@ -8,7 +8,8 @@ use Rattle.n1ql_value.specs.declared.value.Value.TheVariants.{Missing, Null, Boo
 use Rattle.script_text.specs.declared.reader.member_kind.MemberKind.{MemberKind}
 use Rattle.script_text.specs.declared.reader.member_kind.MemberKind.TheVariants as kind
 use Rattle.script_text.specs.declared.reader.sizes.Sizes.{Sizes}
-use Rattle.script_text.specs.Members.{Members, number_in, value_at}
+use Rattle.n1ql_value.specs.Kinds.{number_in}
+use Rattle.script_text.specs.Members.{Members, value_at}
 use Rattle.script_text.specs.Rows.{in_range, is_number_within, is_within, header_row}
 use Rattle.script_text.specs.Items.{count_at, no_sizes}
 

@@ -14,7 +14,8 @@ use Rattle.script_text.specs.declared.reader.header.Header.{Header}
 use Rattle.script_text.specs.declared.reader.member.Member.{Member}
 use Rattle.script_text.specs.declared.reader.member_kind.MemberKind.TheVariants as kind
 use Rattle.script_text.specs.declared.reader.sizes.Sizes.{Sizes}
-use Rattle.script_text.specs.Members.{Members, text_in, value_at, text_at, number_at}
+use Rattle.n1ql_value.specs.Kinds.{text_in}
+use Rattle.script_text.specs.Members.{Members, value_at, text_at, number_at}
 use Rattle.script_text.specs.Rows.{in_range, is_text_within, has_shape, has_needed, header_row, is_within}
 use Rattle.script_text.specs.Built.{is_header_built}
 use Rattle.script_text.specs.Items.{no_sizes, is_other_version, header_with, header_in, header_of, members_of, and_then}

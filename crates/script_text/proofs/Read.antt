@@ -7,7 +7,8 @@ use Rattle.n1ql_json.specs.declared.fault.JsonFault.{JsonFault}
 use Rattle.n1ql_json.specs.declared.fault.JsonFault.TheVariants.{Syntax, Number, Memory}
 use Rattle.n1ql_json.specs.Reads.{read_of, Gives}
 use Rattle.scan_history.specs.declared.kind.Kind.TheVariants as kind
-use Rattle.script_text.specs.Members.{Members, object_in}
+use Rattle.n1ql_value.specs.Kinds.{object_in}
+use Rattle.script_text.specs.Members.{Members}
 use Rattle.script_text.specs.Items.{members_in, members_of}
 
 -- a line that is a value

@@ -18,7 +18,8 @@ use Rattle.script_text.specs.declared.reader.form.Form.TheVariants.{Upsert, Dele
 use Rattle.script_text.specs.declared.reader.header.Header.{Header}
 use Rattle.script_text.specs.declared.reader.item.Item.{Item}
 use Rattle.script_text.specs.declared.reader.sizes.Sizes.{Sizes}
-use Rattle.script_text.specs.Members.{Members, object_in, value_at, text_at, number_at}
+use Rattle.n1ql_value.specs.Kinds.{object_in}
+use Rattle.script_text.specs.Members.{Members, value_at, text_at, number_at}
 use Rattle.script_text.specs.SpanForms.{spans_of}
 use Rattle.script_text.specs.Rows.{form_of, row_of, header_row, has_shape, is_within}
 use Rattle.script_text.specs.Built.{is_header_built, is_built}

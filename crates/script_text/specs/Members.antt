@@ -7,57 +7,17 @@ use Rattle.n1ql_value.specs.declared.datum.Datum.{Datum}
 use Rattle.n1ql_value.specs.declared.value.Value.{Value}
 use Rattle.n1ql_value.specs.declared.value.Value.TheVariants as value
 use Rattle.n1ql_value.specs.Datum.{value_of}
+use Rattle.n1ql_value.specs.Kinds.{number_in, text_in}
 use Rattle.n1ql_value.specs.Names.{under_name}
 
 -- names with their values, in byte order of the names and each name once
 abbrev pub Members : Type 0
 Members = List (List ℕ × Datum)
 
--- what a value is, None where it is another thing
-abbrev pub object_in : Value → Option Members
-object_in value.Missing = None
-object_in value.Null = None
-object_in (value.Bool b) = None
-object_in (value.Int z) = None
-object_in (value.Text t) = None
-object_in (value.Array ds) = None
-object_in (value.Object members) = Some members
-
-abbrev pub items_in : Value → Option (List Datum)
-items_in value.Missing = None
-items_in value.Null = None
-items_in (value.Bool b) = None
-items_in (value.Int z) = None
-items_in (value.Text t) = None
-items_in (value.Array ds) = Some ds
-items_in (value.Object members) = None
-
-abbrev pub text_in : Value → Option (List ℕ)
-text_in value.Missing = None
-text_in value.Null = None
-text_in (value.Bool b) = None
-text_in (value.Int z) = None
-text_in (value.Text t) = Some t
-text_in (value.Array ds) = None
-text_in (value.Object members) = None
-
-abbrev pub number_in : Value → Option ℤ
-number_in value.Missing = None
-number_in value.Null = None
-number_in (value.Bool b) = None
-number_in (value.Int z) = Some z
-number_in (value.Text t) = None
-number_in (value.Array ds) = None
-number_in (value.Object members) = None
-
+-- TRUE or FALSE, None where the value is another thing
 abbrev pub flag_in : Value → Option Bool
-flag_in value.Missing = None
-flag_in value.Null = None
 flag_in (value.Bool b) = Some b
-flag_in (value.Int z) = None
-flag_in (value.Text t) = None
-flag_in (value.Array ds) = None
-flag_in (value.Object members) = None
+flag_in _ = None
 
 -- the value is this text
 abbrev pub is_word : List ℕ → Value → Bool

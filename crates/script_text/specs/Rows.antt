@@ -12,7 +12,8 @@ use Rattle.script_text.specs.declared.reader.member_kind.MemberKind.TheVariants 
 use Rattle.script_text.specs.declared.reader.name.Name.{Name}
 use Rattle.script_text.specs.declared.reader.name.Name.TheVariants as name
 use Rattle.script_text.specs.declared.reader.sizes.Sizes.{Sizes}
-use Rattle.script_text.specs.Members.{Members, text_in, number_in, flag_in, is_word, value_at, text_at, each_member}
+use Rattle.n1ql_value.specs.Kinds.{number_in, text_in}
+use Rattle.script_text.specs.Members.{Members, flag_in, is_word, value_at, text_at, each_member}
 use Rattle.script_text.specs.SparseVectors.{is_vector, is_vector_below}
 use Rattle.script_text.specs.SpanForms.{are_spans, are_spans_within}
 

@@ -7,7 +7,8 @@ use Rattle.n1ql_value.specs.declared.datum.Datum.{Datum}
 use Rattle.n1ql_value.specs.declared.range.Range.{Range}
 use Rattle.n1ql_value.specs.declared.value.Value.{Value}
 use Rattle.n1ql_value.specs.Datum.{value_of}
-use Rattle.script_text.specs.Members.{Members, object_in, items_in, number_in, value_at, number_at, each_member, each_item}
+use Rattle.n1ql_value.specs.Kinds.{array_in, number_in, object_in}
+use Rattle.script_text.specs.Members.{Members, value_at, number_at, each_member, each_item}
 
 -- a range has a low and a high bound, any values, and the number that tells which bounds are in; each may be absent
 abbrev pub is_range_member : List ℕ → Value → Bool
@@ -18,10 +19,10 @@ abbrev pub is_range : Value → Bool
 is_range v = option_map_or (each_member is_range_member) (object_in v) false
 
 abbrev pub is_span : Value → Bool
-is_span v = option_map_or (each_item is_range) (items_in v) false
+is_span v = option_map_or (each_item is_range) (array_in v) false
 
 abbrev pub are_spans : Value → Bool
-are_spans v = option_map_or (each_item is_span) (items_in v) false
+are_spans v = option_map_or (each_item is_span) (array_in v) false
 
 -- which bounds are in: both, where nothing is said
 abbrev pub included : Members → ℤ
@@ -33,11 +34,11 @@ is_range_within v = option_map_or (λ members. int_le (pos 0) (included members)
 
 -- at most 16 ranges
 abbrev pub is_span_within : Value → Bool
-is_span_within v = option_map_or (λ ranges. nat_le (length ranges) 16 && each_item is_range_within ranges) (items_in v) false
+is_span_within v = option_map_or (λ ranges. nat_le (length ranges) 16 && each_item is_range_within ranges) (array_in v) false
 
 -- at most 64 spans
 abbrev pub are_spans_within : Value → Bool
-are_spans_within v = option_map_or (λ spans. nat_le (length spans) 64 && each_item is_span_within spans) (items_in v) false
+are_spans_within v = option_map_or (λ spans. nat_le (length spans) 64 && each_item is_span_within spans) (array_in v) false
 
 -- the same as ranges count it
 abbrev pub incl_of : ℤ → ℕ
@@ -58,7 +59,7 @@ abbrev pub no_items : List Datum
 no_items = []
 
 abbrev pub span_of : Value → List Range
-span_of v = map (λ d. range_of (value_of d)) (unwrap_or (items_in v) no_items)
+span_of v = map (λ d. range_of (value_of d)) (unwrap_or (array_in v) no_items)
 
 abbrev pub spans_of : Value → List (List Range)
-spans_of v = map (λ d. span_of (value_of d)) (unwrap_or (items_in v) no_items)
+spans_of v = map (λ d. span_of (value_of d)) (unwrap_or (array_in v) no_items)

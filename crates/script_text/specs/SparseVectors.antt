@@ -3,7 +3,8 @@ use Rattle.std.specs.Prelude.{ℕ, pos, ◌+◌, ◌-◌, ◌*◌, ◌==◌, Lis
 use Rattle.std.specs.List.{list_all}
 use Rattle.std.specs.Option.{option_map_or, is_some}
 use Rattle.n1ql_value.specs.declared.value.Value.{Value}
-use Rattle.script_text.specs.Members.{object_in, number_in, each_member}
+use Rattle.n1ql_value.specs.Kinds.{number_in, object_in}
+use Rattle.script_text.specs.Members.{each_member}
 
 abbrev pub is_digit : ℕ → Bool
 is_digit b = nat_le 48 b && nat_le b 57

@@ -1,6 +1,6 @@
 ghost use Rattle.std.specs.Prelude.{◌≡◌};
 ghost use Rattle.script_text.specs.Items.{members_of};
-ghost use Rattle.script_text.specs.Members.{object_in};
+ghost use Rattle.n1ql_value.specs.Kinds.{object_in};
 ghost use Rattle.script_text.specs.Reading.{LineReadsAs};
 
 use crate::reader::line_fault::LineFault;

@@ -1,6 +1,7 @@
 ghost use Rattle.std.specs.Prelude.{◌≡◌, int_le, pos, false};
 ghost use Rattle.std.specs.Option.{is_some, option_map_or};
-ghost use Rattle.script_text.specs.Members.{text_in, number_in, flag_in, is_word};
+ghost use Rattle.n1ql_value.specs.Kinds.{number_in, text_in};
+ghost use Rattle.script_text.specs.Members.{flag_in, is_word};
 ghost use Rattle.script_text.specs.Rows.{has_kind, in_range, is_consistency, is_mine, is_number_within, is_number_below, is_text_within};
 
 use crate::reader::sizes::Sizes;
