@@ -2,12 +2,12 @@
 use Rattle.std.proofs.Common.{◌≡◌, ◌≢◌, ℕ, ◌+◌, ◌<◌, ◌≤◌, List, ltb, length, set, refl, ap, sym, subst, ◌∙◌, inl, inr, arith}
 use Rattle.std.proofs.lemmas.Bool.{cases_lt, cond-true, cond-false, lt-ltb, le-ltb}
 use Rattle.std.proofs.lemmas.Grind.{same_number_lists}
-use Rattle.std.proofs.lemmas.List.{get_or-set_same, get_or-set_other}
+use Rattle.std.proofs.lemmas.List.{get_or_past, get_or-set_same, get_or-set_other}
 use Rattle.std.proofs.lemmas.List.FromFn.{get_or-map-range_with_len, length-map-range_with_len}
 use Rattle.std.proofs.Math.ListN.{length-set}
 use Rattle.std.proofs.Math.Nat.{min-eq_left, min-eq_right}
 use Rattle.std.specs.Prelude.{min}
-use Rattle.seq_vector.specs.Vectors.{entry, meet}
+use Rattle.seq_vector.specs.Vectors.{entry, meet, IsCovered}
 use Rattle.dcp_stream.specs.Streams.{IsStream, lowered_to, lowered}
 
 pub fallen : (p q x : ℕ) → q < p → lowered_to p q x ≡ q
@@ -85,3 +85,22 @@ stream_back at began ends to same s entries size = record {
         | inr stays ↦ omega (arith, there, stayed (entry at vb) (entry to vb) (entry ends vb) stays, entries vb, min-eq_left {n = entry at vb} {m = entry to vb} stays)
       ];
 }
+
+-- a number past the end is 0, which is at most any other
+below : (to high : List ℕ) (vb : ℕ) → IsCovered to high → entry to vb ≤ entry high vb
+below to high vb covered = elim (cases_lt vb (length to)) [
+  | inl within ↦ covered vb within
+  | inr past ↦ omega (arith, get_or_past to vb 0 past)
+]
+
+-- what goes back to a vector stays within what covers both
+pub lowered_within : (at to ends high : List ℕ) → IsCovered to high → IsCovered ends high → IsCovered (lowered at to ends) high
+lowered_within at to ends high to_within ends_within vb h =
+    let within : vb < length ends = omega (arith, length-lowered at to ends) in
+    let there = entry-lowered at to ends vb within in
+    let low = below to high vb to_within in
+    let before = ends_within vb within in
+    elim (cases_lt (entry to vb) (entry at vb)) [
+      | inl falls ↦ omega (arith, there, fallen (entry at vb) (entry to vb) (entry ends vb) falls)
+      | inr stays ↦ omega (arith, there, stayed (entry at vb) (entry to vb) (entry ends vb) stays)
+    ]

@@ -1,4 +1,4 @@
-ghost use Rattle.std.specs.Prelude.{◌≡◌, ◌+◌, ◌^◌, ◌<◌, ◌≤◌, length, IfOk, IfSome, OnErr};
+ghost use Rattle.std.specs.Prelude.{◌≡◌, ℕ, ◌+◌, ◌^◌, ◌<◌, ◌≤◌, List, length, IfOk, IfSome, OnErr};
 ghost use Rattle.seq_vector.specs.Vectors.{entry, IsCovered, zeros};
 ghost use Rattle.vb_store.specs.Mutations.{high_of};
 ghost use Rattle.dcp_stream.specs.Pieces.{PieceStands};
@@ -126,7 +126,9 @@ impl Position {
     /// Goes back to a vector, where the stream was ahead of it. What it falls back in begins with a marker of its own.
     pub fn rewind(&mut self, to: &Vector)
         requires { length self.old.at ≡ length to.now }
-        ensures { self.new ≡ rewound to.now self.old }
+        ensures back { self.new ≡ rewound to.now self.old }
+        ensures size { length self.new.at ≡ length self.old.at }
+        ensures within { (high : List ℕ) → IsCovered to.now high → IsCovered self.old.ends high → IsCovered self.new.ends high }
     {
         meet_is_greatest();
         lower(&self.at, to, &mut self.began);
