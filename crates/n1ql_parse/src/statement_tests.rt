@@ -164,14 +164,28 @@ fn show_statement(out: &mut String, statement: &Ddl) -> Result<(), AllocError> {
     }
 }
 
-fn statement_of(alloc: Global, text: &str) -> Result<String, AllocError> {
+/// What a statement is, in words.
+fn text_of(alloc: Global, statement: &Ddl) -> Result<String, AllocError> {
     let mut out = String::new(alloc);
-    match ddl(alloc, text) {
-        Ok(statement) => show_statement(&mut out, &statement)?,
-        Err(ParseFault::Fault { at }) => write!(out, "fault {at}")?,
-        Err(ParseFault::Memory) => out.push_str("memory")?,
+    show_statement(&mut out, statement)?;
+    Ok(out)
+}
+
+/// Where a fault is, in words.
+fn text_of_fault(alloc: Global, fault: ParseFault) -> Result<String, AllocError> {
+    let mut out = String::new(alloc);
+    match fault {
+        ParseFault::Fault { at } => write!(out, "fault {at}")?,
+        ParseFault::Memory => out.push_str("memory")?,
     }
     Ok(out)
+}
+
+fn statement_of(alloc: Global, text: &str) -> Result<String, AllocError> {
+    match ddl(alloc, text) {
+        Ok(statement) => text_of(alloc, &statement),
+        Err(fault) => text_of_fault(alloc, fault),
+    }
 }
 
 fn check_statements(rt: &impl Abort, alloc: Global, table: &[(&str, &str)]) -> Result<(), Fail> {
