@@ -4,3 +4,4 @@ mod Shown
 mod Runs
 mod Actions
 mod Plays
+mod Statements

@@ -12,3 +12,6 @@ mod statement;
 mod whole;
 
 pub use whole::replay;
+
+#[cfg(test)]
+mod tests;

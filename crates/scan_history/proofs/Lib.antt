@@ -1,0 +1,4 @@
+mod StatementTokens
+mod StatementReading
+mod StatementDefinition
+mod StatementText

@@ -4,4 +4,5 @@ pub mod Fold
 pub mod RowTexts
 pub mod Answers
 pub mod Ddl
+pub mod Definitions
 pub mod Sound
