@@ -1,20 +1,16 @@
 -- A text occurs in another just where it stands between two parts of it.
 use Rattle.std.proofs.Common.{◌≡◌, ◌↔◌, ℕ, Bool, true, false, ◌&&◌, ◌||◌, ◌==◌, List, [], ◌∷◌, ◌++◌, refl, sym, ap, ◌∙◌}
-use Rattle.std.proofs.lemmas.Bool.{eqb-true, eq-eqb}
+use Rattle.std.proofs.lemmas.Bool.{and_parts, eqb-true, eq-eqb}
 use Rattle.std.specs.List.{starts_with}
 use Rattle.std.specs.Str.Iter.{HasSubslice}
 use Rattle.n1ql_value.specs.FunctionValues.{occurs}
-
-both_true : (a b : Bool) → (a && b) ≡ true → (a ≡ true) × (b ≡ true)
-both_true true b h = (refl, h)
-both_true false b h = absurd (cc)
 
 -- what begins with a text goes on after it
 begins : (part text : List ℕ) → starts_with ◌==◌ text part ≡ true → (rest : List ℕ) × (text ≡ part ++ rest)
 begins [] text h = (text, refl)
 begins (x ∷ part) [] h = absurd (cc)
 begins (x ∷ part) (y ∷ text) h =
-    let both = both_true (x == y) (starts_with ◌==◌ text part) h in
+    let both = and_parts (x == y) (starts_with ◌==◌ text part) h in
     let more = begins part text both.1 in
     let same : x ≡ y = eqb-true x y both.0 in
     (more.0, cc (same, more.1))

@@ -1,6 +1,5 @@
 -- What is read out of lists of values, which contracts see as lists of plain trees.
-use Rattle.std.proofs.Common.{◌≡◌, ◌<◌, ℕ, zero, suc, List, [], ◌∷◌, length, get_or, map, Option, Some, None, refl, sym, ap, ◌∙◌, arith}
-use Rattle.std.specs.Option.{option_map}
+use Rattle.std.proofs.Common.{◌≡◌, ◌<◌, ℕ, zero, suc, List, [], ◌∷◌, length, get_or, map, refl, sym, ap, arith}
 use Rattle.n1ql_value.specs.declared.datum.Datum.{Datum}
 use Rattle.n1ql_value.specs.declared.datum.Datum.TheVariants as datum
 use Rattle.n1ql_value.specs.declared.value.Value.{Value}
@@ -12,13 +11,6 @@ pub argument_at : (vs : List Value) (place : ℕ) (d : Value) → place < length
 argument_at [] place d h = absurd (omega arith)
 argument_at (v ∷ vs) zero d h = sym (value_of-datum_of v)
 argument_at (v ∷ vs) (suc place) d h = argument_at vs place d (omega arith)
-
-value_in : (found : Option Value) → option_map value_of (option_map datum_of found) ≡ found
-value_in None = refl
-value_in (Some v) = ap Some (value_of-datum_of v)
-
-pub value_found : (found : Option Value) (told : Option Datum) → option_map datum_of found ≡ told → found ≡ option_map value_of told
-value_found found told e = sym (value_in found) ∙ ap (option_map value_of) e
 
 -- the names of pairs
 pub names_told : (es : List (Bytes × Value)) → map (λ (e : Bytes × Value). datum.Text e.0) es ≡ map (λ (p : List ℕ × Datum). datum.Text p.0) (map pair_of es)

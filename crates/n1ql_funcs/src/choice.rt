@@ -7,8 +7,7 @@ ghost use Rattle.n1ql_value.specs.Kinds.{or_null};
 ghost use Rattle.n1ql_value.specs.FunctionValues.{first_that, topmost_valued};
 ghost use Rattle.n1ql_funcs.specs.Choice.{higher_valued};
 
-use crate::kinds::{is_missing, is_null, is_valued};
-use n1ql_value::{Memory, Value, collate};
+use n1ql_value::{Memory, Value, collate, is_missing, is_null, is_valued};
 use std::alloc::Global;
 
 /// Of the values that are neither MISSING nor NULL the greatest by the order.

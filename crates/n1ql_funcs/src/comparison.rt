@@ -3,10 +3,9 @@ ghost use Rattle.n1ql_value.specs.Comparison as comparison;
 ghost use Rattle.n1ql_value.specs.Datum.{datum_of};
 ghost use Rattle.n1ql_funcs.specs.Truths.{truth_value};
 
-use crate::kinds::{is_missing, is_null};
 use crate::logic::and2;
 use crate::truth::Truth;
-use n1ql_value::{Op, Value, collate};
+use n1ql_value::{Op, Value, collate, is_missing, is_null};
 use std::cmp::Ordering;
 
 /// A comparison: MISSING where an operand is MISSING, else NULL where one is NULL, else by the order of values, for values

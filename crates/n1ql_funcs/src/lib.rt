@@ -6,8 +6,7 @@ mod arithmetic;
 mod calls;
 mod choice;
 mod comparison;
-mod kinds;
-mod laws;
+pub mod laws;
 mod logic;
 mod operation;
 mod paths;
@@ -19,12 +18,8 @@ mod truth;
 pub use arithmetic::{calculate, negate};
 pub use calls::call;
 pub use comparison::{between, compare, is_in};
-pub use kinds::{is_missing, is_null, is_true, is_valued};
-pub use laws::{
-    and_is_a_meet, and_is_the_least, between_is_two_comparisons, not_exchanges_the_ends,
-    or_is_a_join, or_is_the_greatest, the_topmost_is_above_all, values_are_compared_by_the_order,
-};
 pub use logic::{and2, not1, or2};
+pub use n1ql_value::{is_missing, is_null, is_true, is_valued};
 pub use operation::operate;
 pub use paths::{field, place};
 pub use texts::join;

@@ -1,6 +1,6 @@
 -- The JSON of a value stands for the value.
 use Rattle.std.proofs.Common.{◌≡◌, ◌≤◌, ℕ, arith, ℤ, suc, max, pos, negsuc, List, [], ◌∷◌, map, Bool, true, false, Some, None, cond, option_map, refl, sym, ap, ap₂, ◌∙◌}
-use Rattle.std.proofs.lemmas.Bool.{or_parts, true≢false}
+use Rattle.std.proofs.lemmas.Bool.{and_parts, or_parts, true≢false}
 use Rattle.serde_json.specs.Data.{Data, depth as json_depth, items_depth, members_depth}
 use Rattle.serde_json.specs.Find.{of_integer, as_i64}
 use Rattle.serde_json.specs.View.{items_of}
@@ -19,7 +19,7 @@ use Rattle.serde_json.specs.Read as serde_json
 use Rattle.n1ql_json.proofs.Outcomes.{reads_as}
 use Rattle.n1ql_json.specs.Valid.{all_true, is_int64, is_pair, is_value_layer, is_value}
 use Rattle.n1ql_json.proofs.Floats.{json_of-roll, by_layers}
-use Rattle.n1ql_json.proofs.Held.{pair_test, and_parts}
+use Rattle.n1ql_json.proofs.Held.{pair_test}
 
 -- ---- as deep as the value
 

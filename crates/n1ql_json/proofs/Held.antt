@@ -1,9 +1,9 @@
 -- Each value that a program holds is one: what the walk over it shows.
-use Rattle.std.proofs.Common.{◌≡◌, ℕ, zero, suc, ◌+◌, ◌<◌, ◌≤◌, ℤ, pos, negsuc, List, [], ◌∷◌, length, get_or, take, map, Bool, true, false, ◌&&◌, refl, sym, ap, ◌∙◌, arith, add-one}
+use Rattle.std.proofs.Common.{◌≡◌, ℕ, zero, suc, ◌+◌, ◌<◌, ◌≤◌, ℤ, pos, negsuc, List, [], ◌∷◌, length, get_or, take, map, Bool, true, ◌&&◌, refl, sym, ap, ◌∙◌, arith, add-one}
 use Rattle.std.specs.Int.{w64}
 use Rattle.std.specs.Prelude.{FitsSigned}
 use Rattle.std.specs.Str.{IsUtf8, is_utf8}
-use Rattle.std.proofs.lemmas.Bool.{false≢true}
+use Rattle.std.proofs.lemmas.Bool.{and_from, and_parts}
 use Rattle.std.proofs.lemmas.Bool.Decides.{nat_tests}
 use Rattle.std.proofs.lemmas.Str.{is_utf8-from_IsUtf8}
 use Rattle.std.specs.Ordering.{is_lt}
@@ -34,13 +34,6 @@ pub is_int64-fits : (z : ℤ) → FitsSigned w64 z → is_int64 z ≡ true
 is_int64-fits (pos n) h = grind (arith, nat_tests)
 is_int64-fits (negsuc n) h = grind (arith, nat_tests)
 
-and_true : (a b : Bool) → a ≡ true → b ≡ true → (a && b) ≡ true
-and_true a b p q = rw p q
-
-pub and_parts : (a b : Bool) → (a && b) ≡ true → (a ≡ true) × (b ≡ true)
-and_parts true b h = (refl, h)
-and_parts false b h = absurd (false≢true h)
-
 below_first-test : {A : Type 0} (name : List ℕ) (ps : List (List ℕ × A)) → IsBelowFirst name ps → is_below_first name ps ≡ true
 below_first-test name [] h = refl
 below_first-test name (p ∷ ps) h = ap is_lt h
@@ -48,14 +41,14 @@ below_first-test name (p ∷ ps) h = ap is_lt h
 names_grow-test : (ps : List (List ℕ × Datum)) → NamesGrow ps → names_grow (map pair_test ps) ≡ true
 names_grow-test [] h = refl
 names_grow-test (p ∷ []) h = refl
-names_grow-test (p ∷ q ∷ ps) h = and_true _ _ (ap is_lt h.0) (names_grow-test (q ∷ ps) h.1)
+names_grow-test (p ∷ q ∷ ps) h = and_from _ _ (ap is_lt h.0) (names_grow-test (q ∷ ps) h.1)
 
 all_next : {A : Type 0} (test : A → Bool) (xs : List A) (i : ℕ) (x : A) → i < length xs → x ≡ get_or xs i x → test x ≡ true → all_true (map test (take i xs)) ≡ true → all_true (map test (take (suc i) xs)) ≡ true
 all_next test [] i x h is here before = absurd (omega arith)
-all_next test (y ∷ xs) zero x h is here before = and_true (test y) true (ap test (sym is) ∙ here) refl
+all_next test (y ∷ xs) zero x h is here before = and_from (test y) true (ap test (sym is) ∙ here) refl
 all_next test (y ∷ xs) (suc i) x h is here before =
     let both = and_parts (test y) (all_true (map test (take i xs))) before in
-    and_true _ _ both.0 (all_next test xs i x (omega arith) is here both.1)
+    and_from _ _ both.0 (all_next test xs i x (omega arith) is here both.1)
 
 -- the first of a list pass a test, and the next does
 pub all_more : {A : Type 0} (test : A → Bool) (xs : List A) (i : ℕ) (x : A) → i < length xs → x ≡ get_or xs i x → test x ≡ true → all_true (map test (take i xs)) ≡ true → all_true (map test (take (i + 1) xs)) ≡ true
@@ -67,7 +60,7 @@ all_taken test [] i h taken = refl
 all_taken test (x ∷ xs) zero h taken = absurd (omega arith)
 all_taken test (x ∷ xs) (suc i) h taken =
     let both = and_parts (test x) (all_true (map test (take i xs))) taken in
-    and_true _ _ both.0 (all_taken test xs i (omega arith) both.1)
+    and_from _ _ both.0 (all_taken test xs i (omega arith) both.1)
 
 all_true-map : {A B : Type 0} (f : A → B) (test : B → Bool) (xs : List A) → all_true (map test (map f xs)) ≡ all_true (map (λ x. test (f x)) xs)
 all_true-map f test [] = refl
@@ -86,10 +79,10 @@ pub items_held : (vs : List Value) → all_true (map is_held vs) ≡ true → al
 items_held vs h = all_true-map datum_of is_value vs ∙ h
 
 pairs_held : (ps : List (List ℕ × Datum)) (es : List Entry) → map pair_of es ≡ ps → NamesGrow ps → all_true (map is_held_pair es) ≡ true → is_value_layer (Datum-F.Object (map pair_test ps)) ≡ true
-pairs_held ps es is grow h = and_true _ _ (names_grow-test ps grow) (ap (λ qs. all_true (map is_pair (map pair_test qs))) (sym is) ∙ (all_true-map pair_test is_pair (map pair_of es) ∙ (all_true-map pair_of (λ p. is_pair (pair_test p)) es ∙ h)))
+pairs_held ps es is grow h = and_from _ _ (names_grow-test ps grow) (ap (λ qs. all_true (map is_pair (map pair_test qs))) (sym is) ∙ (all_true-map pair_test is_pair (map pair_of es) ∙ (all_true-map pair_of (λ p. is_pair (pair_test p)) es ∙ h)))
 
 pub object_held : (ps : List (List ℕ × Datum)) (es : List Entry) → map pair_of es ≡ ps → NamesGrow ps → all_true (map is_held_pair es) ≡ true → is_value (datum.Object ps) ≡ true
 object_held ps es is grow h = ap is_value (sym (rolls-Object ps)) ∙ (fold-roll-Datum Bool is_value_layer (Datum-F.Object ps) ∙ pairs_held ps es is grow h)
 
 pub pair_held : (e : Entry) (name : List ℕ) → e.0 ≡ name → IsUtf8 name → is_value (datum_of e.1) ≡ true → is_held_pair e ≡ true
-pair_held e name same utf8 held = and_true _ _ (ap is_utf8 same ∙ is_utf8-from_IsUtf8 name utf8) held
+pair_held e name same utf8 held = and_from _ _ (ap is_utf8 same ∙ is_utf8-from_IsUtf8 name utf8) held

@@ -1,5 +1,5 @@
 -- The JSON of a value by its top, and of what stands below it one after another.
-use Rattle.std.proofs.Common.{◌≡◌, ℕ, zero, suc, ◌+◌, ◌<◌, ◌≤◌, List, [], ◌∷◌, length, get_or, take, map, Less, Greater, nat_cmp, refl, sym, ap, ◌∙◌, arith, rules, add-one, Bool}
+use Rattle.std.proofs.Common.{◌≡◌, ℕ, zero, suc, ◌+◌, ◌<◌, List, [], ◌∷◌, length, get_or, take, map, Less, Greater, nat_cmp, refl, sym, ap, ◌∙◌, arith, rules, add-one, Bool}
 use Rattle.std.proofs.lemmas.Cmp.{nat_list_cmp_total}
 use Rattle.std.specs.Cmp.Lexicographic.{slice_cmp}
 use Rattle.std.specs.Ordering.{ordering_reverse}
@@ -12,7 +12,6 @@ use Rattle.n1ql_value.specs.declared.datum.Datum.TheFolds.{map-Datum, fold_out-D
 use Rattle.n1ql_value.specs.declared.text.Text.{Text as Bytes}
 use Rattle.n1ql_value.specs.declared.value.Value.{Value}
 use Rattle.n1ql_value.specs.Datum.{datum_of, pair_of, layer_of, out_datum_of}
-use Rattle.n1ql_value.specs.Depth.{largest, depth, pairs_depth}
 use Rattle.n1ql_value.specs.Names.{IsBelowFirst, NamesGrow}
 use Rattle.n1ql_json.specs.Json.{json_of, json_layer, json_pair, members_with}
 
@@ -31,17 +30,6 @@ json_by_layer v = json_layer (map-Datum Datum Data json_of (layer_of v))
 
 pub json_of-layer : (v w : Value) → v ≡ w → json_of (datum_of v) ≡ json_by_layer w
 json_of-layer v w is = fold_out-Datum Data json_layer (datum_of v) ∙ (ap (λ d. json_layer (map-Datum Datum Data json_of d)) (out_datum_of v) ∙ ap json_by_layer is)
-
--- no item is deeper than the deepest
-pub depth_at : (vs : List Value) (i : ℕ) (d : Value) → i < length vs → depth (datum_of (get_or vs i d)) ≤ largest (map depth (map datum_of vs))
-depth_at [] i d h = absurd (omega arith)
-depth_at (v ∷ vs) zero d h = omega arith
-depth_at (v ∷ vs) (suc i) d h = omega (arith, depth_at vs i d (omega arith))
-
-pub pair_depth_at : (es : List Entry) (i : ℕ) (d : Entry) → i < length es → depth (pair_of (get_or es i d)).1 ≤ pairs_depth (map pair_of es)
-pair_depth_at [] i d h = absurd (omega arith)
-pair_depth_at (e ∷ es) zero d h = omega arith
-pair_depth_at (e ∷ es) (suc i) d h = omega (arith, pair_depth_at es i d (omega arith))
 
 -- a name below the first is below all
 below_each : (name : List ℕ) (es : List Entry) → IsBelowFirst name (map pair_of es) → NamesGrow (map pair_of es) → (j : ℕ) (d : Entry) → j < length es → slice_cmp nat_cmp name (get_or es j d).0 ≡ Less

@@ -5,7 +5,7 @@ use Rattle.std.specs.Str.{is_utf8}
 use Rattle.std.specs.Ordering.{is_lt, ordering_reverse}
 use Rattle.std.specs.declared.cmp.Ordering.{Ordering}
 use Rattle.std.specs.Cmp.Lexicographic.{slice_cmp}
-use Rattle.std.proofs.lemmas.Bool.{false≢true}
+use Rattle.std.proofs.lemmas.Bool.{and_parts, false≢true}
 use Rattle.std.proofs.lemmas.Bool.Decides.{nat_tests}
 use Rattle.std.proofs.lemmas.Cmp.{nat_list_cmp_total}
 use Rattle.std.proofs.lemmas.Fmt.{IsAscii-decimal}
@@ -34,7 +34,7 @@ use Rattle.n1ql_json.specs.Json.{json_of, json_layer, json_pair, members_with, t
 use Rattle.n1ql_json.specs.ReadBack.{IsReadBack}
 use Rattle.n1ql_json.specs.Valid.{all_true, is_int64, is_below_first, names_grow, is_pair, is_value_layer, is_value}
 use Rattle.n1ql_json.proofs.Floats.{json_of-roll, by_layers}
-use Rattle.n1ql_json.proofs.Held.{pair_test, and_parts}
+use Rattle.n1ql_json.proofs.Held.{pair_test}
 use Rattle.n1ql_json.proofs.Back.{read_back}
 
 -- ---- as deep as the value

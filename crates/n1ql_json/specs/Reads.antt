@@ -52,7 +52,7 @@ Gives outcome (Err Memory) = ⊤
 Gives outcome (Err Syntax) = outcome ≡ Err Syntax
 Gives outcome (Err Number) = outcome ≡ Err Number
 
--- for private clauses: a step answers this fault, Number exactly where nothing is found
+-- a tree of JSON fails so: with Number where it stands for no value, or because memory ran out, and never with Syntax
 abbrev pub IsFault : {A : Type 0} → Option A → JsonFault → Type 0
 IsFault found Memory = ⊤
 IsFault found Number = found ≡ None

@@ -3,13 +3,12 @@
 #![tactic(auto)]
 
 mod fault;
-mod laws;
+pub mod laws;
 mod reading;
 #[cfg(test)]
 mod tests;
 mod writing;
 
 pub use fault::JsonFault;
-pub use laws::what_is_written_is_read_back;
-pub use reading::read;
+pub use reading::{read, value_from};
 pub use writing::write;

@@ -14,12 +14,12 @@ use std::alloc::Global;
 /// # Errors
 ///
 /// `Syntax` exactly where the bytes are not JSON that nests at most 127 deep. Else `Number` exactly where a number of the
-/// value is not written as an integer from -2^63 to 2^63 - 1, so also for `1.0`, `1e2` and `-0`.
+/// value is not written as an integer from -2^63 to 2^63 - 1, so also for `1.0`, `1e2` and `-0`. `Memory` where it ran out.
 pub fn read(alloc: Global, bytes: &[u8]) -> Result<Value, JsonFault>
     ensures { Gives (read_of bytes.now) result }
 {
     match Json::from_slice(alloc, bytes) {
-        Ok(json) => value_of(alloc, &json),
+        Ok(tree) => value_from(alloc, tree),
         Err(error) => {
             if error.is_memory() {
                 Err(JsonFault::Memory)
@@ -30,34 +30,38 @@ pub fn read(alloc: Global, bytes: &[u8]) -> Result<Value, JsonFault>
     }
 }
 
-/// The value that JSON stands for.
+/// The value that a tree of JSON stands for, made of the tree's own texts.
+///
+/// # Errors
+///
+/// `Number` exactly where a number of the tree is not an integer from -2^63 to 2^63 - 1. `Memory` where it ran out.
 #[cycle(values)]
-fn value_of(alloc: Global, json: &Json) -> Result<Value, JsonFault>
-    ensures ok { IfOk result (λ v. value_read (view json.now) ≡ Some (datum_of v)) }
-    ensures err { IfErr result (IsFault (value_read (view json.now))) }
+pub fn value_from(alloc: Global, tree: Json) -> Result<Value, JsonFault>
+    ensures ok { IfOk result (λ v. value_read (view tree) ≡ Some (datum_of v)) }
+    ensures err { IfErr result (IsFault (value_read (view tree))) }
 {
-    match json {
+    match tree {
         Json::Null => Ok(Value::Null),
-        Json::Bool(b) => Ok(Value::Bool(*b)),
+        Json::Bool(b) => Ok(Value::Bool(b)),
         Json::Number(number) => match number.as_i64() {
             Some(n) => Ok(Value::Int(n)),
             None => Err(JsonFault::Number),
         },
-        Json::String(text) => Ok(Value::Text(Text::of(alloc, text.as_str())?)),
-        Json::Array(items) => Ok(Value::Array(items_of(alloc, items)?)),
-        Json::Object(members) => Ok(Value::Object(pairs_of(alloc, members)?)),
+        Json::String(text) => Ok(Value::Text(Text::from_string(text))),
+        Json::Array(items) => Ok(Value::Array(values_from(alloc, items)?)),
+        Json::Object(members) => Ok(Value::Object(pairs_from(alloc, members)?)),
     }
 }
 
 /// The values of an array.
 #[cycle(values)]
-fn items_of(alloc: Global, items: &Vec<Json>) -> Result<Vals, JsonFault>
-    ensures ok { IfOk result (λ vs. items_read (items_view items.now.items) ≡ Some vs) }
-    ensures err { IfErr result (IsFault (items_read (items_view items.now.items))) }
+fn values_from(alloc: Global, items: Vec<Json>) -> Result<Vals, JsonFault>
+    ensures ok { IfOk result (λ vs. items_read (items_view items.items) ≡ Some vs) }
+    ensures err { IfErr result (IsFault (items_read (items_view items.items))) }
 {
     let mut values = Vals::new(alloc);
     for item in items {
-        let value = value_of(alloc, item)?;
+        let value = value_from(alloc, item)?;
         values.push(value)?;
     }
     Ok(values)
@@ -65,15 +69,14 @@ fn items_of(alloc: Global, items: &Vec<Json>) -> Result<Vals, JsonFault>
 
 /// The pairs of an object.
 #[cycle(values)]
-fn pairs_of(alloc: Global, members: &Map<String, Json>) -> Result<Pairs, JsonFault>
-    ensures ok { IfOk result (λ ps. members_read (members_view members.now.entries) ≡ Some ps) }
-    ensures err { IfErr result (IsFault (members_read (members_view members.now.entries))) }
+fn pairs_from(alloc: Global, members: Map<String, Json>) -> Result<Pairs, JsonFault>
+    ensures ok { IfOk result (λ ps. members_read (members_view members.entries) ≡ Some ps) }
+    ensures err { IfErr result (IsFault (members_read (members_view members.entries))) }
 {
     let mut pairs = Pairs::new(alloc);
-    for (name, member) in members.iter() {
-        let key = Text::of(alloc, name.as_str())?;
-        let value = value_of(alloc, member)?;
-        pairs.put(key, value)?;
+    for (name, member) in members {
+        let value = value_from(alloc, member)?;
+        pairs.put(Text::from_string(name), value)?;
     }
     Ok(pairs)
 }

@@ -71,6 +71,8 @@ fn nesting_and_missing(rt: HostRuntime) -> Result<(), Fail> {
     let alloc = rt.alloc();
     assert!(rt; read(alloc, &nested(alloc, 127)?).is_ok());
     assert_eq!(rt; outcome(alloc, &nested(alloc, 128)?)?.as_str(), "Syntax");
+    let tree = serde_json::Value::Bool(true);
+    assert!(rt; matches!(value_from(alloc, tree), Ok(Value::Bool(true))));
     let mut items = Vals::new(alloc);
     items.push(Value::Missing)?;
     items.push(Value::Int(7))?;

@@ -1,4 +1,6 @@
-mod Slices
+pub mod Slices
+pub mod Found
 mod Keys
-pub mod SortedListLaws
 mod Places
+pub mod CollationOfValues
+pub mod RowLaws

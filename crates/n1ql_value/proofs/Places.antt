@@ -12,8 +12,8 @@ use Rattle.n1ql_value.specs.declared.text.Text.{Text as Bytes}
 use Rattle.n1ql_value.specs.declared.value.Value.{Value}
 use Rattle.n1ql_value.specs.Datum.{datum_of, pair_of}
 use Rattle.n1ql_value.specs.Names.{IsBelowFirst, NamesGrow, under_name, with_pair}
-use Rattle.n1ql_value.specs.Places.{IsPlace, HasName, LacksName}
-use Rattle.n1ql_value.specs.CollationLaws.{bytes-exact}
+use Rattle.n1ql_value.specs.inner.Places.{IsPlace, HasName, LacksName}
+use Rattle.n1ql_value.specs.inner.CollationLaws.{bytes-exact}
 
 abbrev name_cmp : List ℕ → List ℕ → Ordering
 name_cmp = slice_cmp nat_cmp

@@ -7,7 +7,7 @@ use Rattle.std.specs.FinMap as map
 use Rattle.n1ql_value.specs.declared.row.Row.{Row}
 use Rattle.n1ql_value.specs.declared.value.Value.{Value}
 use Rattle.n1ql_value.specs.Collation.{row_cmp}
-use Rattle.n1ql_value.specs.SortedLists.{sort_of}
+use Rattle.sorted_lists.specs.SortedLists.{sort_of}
 
 -- documents by their ids, in byte order
 abbrev pub Documents : Type 0

@@ -2,7 +2,7 @@ ghost use Rattle.std.specs.Prelude.{◌≡◌, map, length};
 ghost use Rattle.std.specs.Cmp.Lexicographic.{slice_cmp};
 ghost use Rattle.std.specs.Ordering.{nat_cmp, ordering_then};
 ghost use Rattle.n1ql_value.specs.Datum.{datum_of, pair_of};
-ghost use Rattle.n1ql_value.specs.Rank.{rank_of};
+ghost use Rattle.n1ql_value.specs.inner.Rank.{rank_of};
 ghost use Rattle.n1ql_value.specs.Collation.{value_cmp, pair_cmp, key_at, keys_cmp, row_cmp};
 
 use crate::row::Row;
@@ -74,7 +74,7 @@ fn collate_at(a: &Vals, b: &Vals, place: usize) -> Ordering
 
 /// Arrays, element by element.
 #[cycle(collation)]
-fn collate_items(a: &[Value], b: &[Value]) -> Ordering
+pub(crate) fn collate_items(a: &[Value], b: &[Value]) -> Ordering
     ensures { result ≡ slice_cmp value_cmp (map datum_of a.now) (map datum_of b.now) }
 {
     for place in 0..a.len().min(b.len()) {

@@ -2,6 +2,8 @@ ghost use Rattle.std.specs.Prelude.{◌≡◌};
 ghost use Rattle.n1ql_value.specs.Functions.{function_of, least_count, most_count, name_of};
 ghost use Rattle.std.specs.Str.{str_eq_ignore_ascii_case};
 
+use crate::words::same_word;
+
 /// A function of the language.
 #[derive(Clone, Copy, Debug, PartialEq, Eq)]
 pub enum Fun {
@@ -98,11 +100,4 @@ impl Fun {
             _ => Some(1),
         }
     }
-}
-
-/// Whether two words are the same without regard to ASCII case.
-fn same_word(a: &str, b: &str) -> bool
-    ensures { result ≡ str_eq_ignore_ascii_case a.now b.now }
-{
-    a.eq_ignore_ascii_case(b)
 }

@@ -4,27 +4,29 @@
 mod collation;
 mod datum;
 mod fun;
-mod laws;
+mod kinds;
+pub mod laws;
+pub mod limits;
 mod list_of;
 mod memory;
 mod op;
+mod order;
 mod pairs;
 mod range;
 mod row;
 mod span;
+mod state;
 #[cfg(test)]
 mod tests;
 mod text;
 mod vals;
 mod value;
+mod words;
 
 pub use collation::{collate, collate_rows};
 pub use datum::Datum;
 pub use fun::Fun;
-pub use laws::{
-    alike_rows_are_equal, alike_values_are_equal, order_by_cases, order_of_rows_is_total,
-    order_of_values_is_total,
-};
+pub use kinds::{is_missing, is_null, is_true, is_valued};
 pub use list_of::ListOf;
 pub use memory::{Failed, Memory};
 pub use op::Op;
@@ -32,9 +34,11 @@ pub use pairs::Pairs;
 pub use range::Range;
 pub use row::Row;
 pub use span::{Span, Spans};
+pub use state::State;
 pub use text::Text;
 pub use vals::Vals;
 pub use value::Value;
+pub use words::{same_text, same_word};
 
 /// Rows, in order.
 pub type Rows = ListOf<Row>;

@@ -1,11 +1,11 @@
-ghost use Rattle.std.specs.Prelude.{◌≡◌, ◌≤◌, false, [], length, map, IfOk, OnOk, OnErr, IsTrue};
+ghost use Rattle.std.specs.Prelude.{◌≡◌, ◌==◌, ◌≤◌, false, [], length, map, IfOk, OnOk, OnErr, IsTrue};
 ghost use Rattle.std.specs.Option.{option_map, option_copied};
 ghost use Rattle.std.specs.List.{AllWithin};
 ghost use Rattle.std.specs.Ordering.{nat_cmp, is_lt};
 ghost use Rattle.std.specs.declared.cmp.Ordering.TheVariants.{Less};
 ghost use Rattle.std.specs.Cmp.Lexicographic.{slice_cmp};
 ghost use Rattle.n1ql_value.specs.Names.{NamesGrow, under_name, with_pair};
-ghost use Rattle.n1ql_value.specs.Places.{IsPlace, HasName, LacksName};
+ghost use Rattle.n1ql_value.specs.inner.Places.{IsPlace, HasName, LacksName};
 ghost use Rattle.n1ql_value.specs.Datum.{datum_of, pair_of};
 
 use crate::memory::Memory;
@@ -16,7 +16,7 @@ use std::marker::Model;
 
 /// The pairs of an object, names in byte order and each once. Contracts see the list of pairs.
 #[cycle(value)]
-#[derive(Drop)]
+#[derive(Debug, Drop)]
 pub struct Pairs {
     entries: Vec<(Text, Value)>,
 }
@@ -42,7 +42,7 @@ impl Model for Pairs {
 
     ghost size = { λ ps. largest (map (λ p. depth p.1) ps) };
 
-    ghost use Rattle.n1ql_value.specs.ValueFalls.{most_le-pairs};
+    ghost use Rattle.n1ql_value.specs.inner.ValueFalls.{most_le-pairs};
 
     ghost size_decreases = { λ a h. most_le-pairs a.entries.items };
 }
@@ -64,6 +64,13 @@ impl Pairs {
         self.entries.len()
     }
 
+    /// Whether there are no pairs.
+    pub fn is_empty(&self) -> bool
+        ensures { result ≡ (length self.now == 0) }
+    {
+        self.entries.is_empty()
+    }
+
     /// The value under a name, None where no pair has it.
     pub fn get(&self, name: &str) -> Option<&Value>
         ensures { option_map datum_of (option_copied result) ≡ under_name name.now self.now }
@@ -72,6 +79,10 @@ impl Pairs {
     }
 
     /// Puts a value under a name: adds the pair, or replaces the value that was there.
+    ///
+    /// # Errors
+    ///
+    /// `Memory` where it ran out; the pairs are then as before.
     pub fn put(&mut self, name: Text, value: Value) -> Result<(), Memory>
         ensures ok { OnOk result (self.new ≡ with_pair name (datum_of value) self.old) }
         ensures err { OnErr result (self.new ≡ self.old) }
@@ -87,7 +98,11 @@ impl Pairs {
         self.entries.as_slice()
     }
 
-    /// The same pairs again.
+    /// A copy of the pairs.
+    ///
+    /// # Errors
+    ///
+    /// `Memory` where it ran out.
     #[cycle(copies)]
     pub fn copy(&self, alloc: Global) -> Result<Pairs, Memory>
         ensures { IfOk result (λ ps. ps ≡ self.now) }

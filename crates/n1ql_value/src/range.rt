@@ -7,7 +7,7 @@ use crate::value::Value;
 use std::cmp::Ordering;
 
 /// The values between two bounds. An absent bound leaves its side free.
-#[derive(Drop)]
+#[derive(Debug, Drop)]
 pub struct Range {
     pub low: Option<Value>,
     pub high: Option<Value>,

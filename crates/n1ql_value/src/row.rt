@@ -6,14 +6,18 @@ use crate::vals::Vals;
 use std::alloc::Global;
 
 /// A row of an index: the values of its keys, and the id of the document that it comes from.
-#[derive(Drop)]
+#[derive(Debug, Drop)]
 pub struct Row {
     pub keys: Vals,
     pub id: Text,
 }
 
 impl Row {
-    /// The same row again.
+    /// A copy of the row.
+    ///
+    /// # Errors
+    ///
+    /// `Memory` where it ran out.
     pub fn copy(&self, alloc: Global) -> Result<Row, Memory>
         ensures { IfOk result (λ row. row ≡ self.now) }
     {

@@ -71,11 +71,11 @@ fn deep_values(alloc: Global) -> Result<Vals, Memory> {
     Ok(vals)
 }
 
-// The first two places whose values don't compare as the places do.
+// The first two places whose values don't compare as the places do, by the function or by `Ord` and `Eq`.
 fn first_disorder(values: &[Value]) -> Option<(usize, usize)> {
     for (i, a) in values.iter().enumerate() {
         for (j, b) in values.iter().enumerate() {
-            if collate(a, b) != i.cmp(&j) {
+            if collate(a, b) != i.cmp(&j) || a.cmp(b) != i.cmp(&j) || (a == b) != (i == j) {
                 return Some((i, j));
             }
         }
@@ -206,11 +206,14 @@ fn objects_texts_and_functions(rt: HostRuntime) -> Result<(), Memory> {
     let alloc = rt.alloc();
     let pairs = object(alloc, &[("b", 2), ("a", 1), ("b", 3)])?.copy(alloc)?;
     assert_eq!(rt; pairs.len(), 2);
+    assert!(rt; !pairs.is_empty());
     assert_eq!(rt; pairs.as_slice().len(), 2);
     assert!(rt; matches!(pairs.get("b"), Some(Value::Int(3))));
     assert!(rt; pairs.get("c").is_none());
     let vals = numbers(alloc, &[7])?.copy(alloc)?;
     assert!(rt; matches!(vals.get(0), Some(Value::Int(7))));
+    assert!(rt; vals < numbers(alloc, &[7, 0])?);
+    assert!(rt; is_valued(&Value::Int(0)) && !is_null(&Value::Missing) && same_word("Ks", "kS"));
     assert!(rt; Fun::by_name("Array_Length") == Some(Fun::ArrayLength));
     assert!(rt; Fun::by_name("COUNT").is_none());
     assert_eq!(rt; Fun::TypeOf.name(), "TYPE");

@@ -28,6 +28,10 @@ impl Model for Text {
 
 impl Text {
     /// A copy of the text.
+    ///
+    /// # Errors
+    ///
+    /// `Memory` where it ran out.
     pub fn of(alloc: Global, text: &str) -> Result<Text, Memory>
         ensures { IfOk result (λ t. t ≡ text.now) }
     {
@@ -42,7 +46,11 @@ impl Text {
         Text { text }
     }
 
-    /// The same text again.
+    /// A copy of the text.
+    ///
+    /// # Errors
+    ///
+    /// `Memory` where it ran out.
     pub fn copy(&self, alloc: Global) -> Result<Text, Memory>
         ensures { IfOk result (λ t. t ≡ self.now) }
     {

@@ -1,4 +1,4 @@
-ghost use Rattle.std.specs.Prelude.{◌≡◌, ◌++◌, ◌∷◌, [], length, slice_get, slice_index_or, map, IfOk, OnOk, OnErr};
+ghost use Rattle.std.specs.Prelude.{◌≡◌, ◌==◌, ◌++◌, ◌∷◌, [], length, slice_get, slice_index_or, map, IfOk, OnOk, OnErr};
 ghost use Rattle.std.specs.Option.{option_map, option_copied};
 
 use crate::memory::Memory;
@@ -8,7 +8,7 @@ use std::marker::Model;
 
 /// A list of values. Contracts see the list.
 #[cycle(value)]
-#[derive(Drop)]
+#[derive(Debug, Drop)]
 pub struct Vals {
     items: Vec<Value>,
 }
@@ -31,7 +31,7 @@ impl Model for Vals {
 
     ghost size = { λ ds. largest (map depth ds) };
 
-    ghost use Rattle.n1ql_value.specs.ValueFalls.{most_le-items};
+    ghost use Rattle.n1ql_value.specs.inner.ValueFalls.{most_le-items};
 
     ghost size_decreases = { λ a h. most_le-items a.items.items };
 }
@@ -53,6 +53,13 @@ impl Vals {
         ensures { result ≡ length self.now }
     {
         self.items.len()
+    }
+
+    /// Whether there are no values.
+    pub fn is_empty(&self) -> bool
+        ensures { result ≡ (length self.now == 0) }
+    {
+        self.items.is_empty()
     }
 
     /// The value at a place from 0, None past the last.
@@ -77,6 +84,10 @@ impl Vals {
     }
 
     /// Adds a value at the end.
+    ///
+    /// # Errors
+    ///
+    /// `Memory` where it ran out; the list is then as before.
     pub fn push(&mut self, value: Value) -> Result<(), Memory>
         ensures ok { OnOk result (self.new ≡ self.old ++ datum_of value ∷ []) }
         ensures err { OnErr result (self.new ≡ self.old) }
@@ -85,7 +96,11 @@ impl Vals {
         Ok(())
     }
 
-    /// The same values again.
+    /// A copy of the values.
+    ///
+    /// # Errors
+    ///
+    /// `Memory` where it ran out.
     #[cycle(copies)]
     pub fn copy(&self, alloc: Global) -> Result<Vals, Memory>
         ensures { IfOk result (λ vs. vs ≡ self.now) }

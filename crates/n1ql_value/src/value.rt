@@ -8,7 +8,7 @@ use std::alloc::Global;
 
 /// A value of N1QL: JSON (RFC 8259) with whole numbers alone, and MISSING.
 #[cycle(value)]
-#[derive(Drop)]
+#[derive(Debug, Drop)]
 pub enum Value {
     Missing,
     Null,
@@ -20,7 +20,11 @@ pub enum Value {
 }
 
 impl Value {
-    /// The same value again.
+    /// A copy of the value.
+    ///
+    /// # Errors
+    ///
+    /// `Memory` where it ran out.
     #[cycle(copies)]
     pub fn copy(&self, alloc: Global) -> Result<Value, Memory>
         ensures { IfOk result (λ v. v ≡ self.now) }

@@ -1,1 +1,2 @@
 pub mod PointwiseLemmas
+mod Shortness

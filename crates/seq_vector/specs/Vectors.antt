@@ -1,6 +1,7 @@
 -- Vectors: a list with a number for each vBucket. The number of a vBucket is how far something has come in it.
-use Rattle.std.specs.Prelude.{ℕ, ◌*◌, ◌%◌, ◌^◌, ◌<◌, ◌≤◌, List, [], ◌∷◌, min, max, length, replicate, slice_index, bit_xor}
+use Rattle.std.specs.Prelude.{ℕ, suc, Bool, Option, Some, None, option_map, nat_lt, if◌then◌else◌, drop, ◌*◌, ◌%◌, ◌^◌, ◌<◌, ◌≤◌, List, [], ◌∷◌, min, max, length, replicate, slice_index, bit_xor}
 use Rattle.std.specs.Prelude.{fold}
+use Rattle.std.specs.Option.{is_none}
 
 -- the number at a vBucket
 abbrev pub entry : List ℕ → ℕ → ℕ
@@ -15,6 +16,15 @@ pub record IsFirstShort (have want : List ℕ) (vb : ℕ) : Type 0 where
   pub within : vb < length want
   pub short : entry have vb < entry want vb
   pub before : (k : ℕ) → k < vb → entry want k ≤ entry have k
+
+-- the least vBucket at which have does not reach want, or none
+abbrev pub first_short : List ℕ → List ℕ → Option ℕ
+first_short have [] = None
+first_short have (w ∷ ws) = (if nat_lt (entry have 0) w then Some 0 else option_map suc (first_short (drop 1 have) ws))
+
+-- have reaches want at each vBucket
+abbrev pub covers : List ℕ → List ℕ → Bool
+covers have want = is_none (first_short have want)
 
 -- f of the two numbers at each vBucket
 abbrev pub pointwise : (ℕ → ℕ → ℕ) → List ℕ → List ℕ → List ℕ

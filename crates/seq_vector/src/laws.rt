@@ -1,11 +1,19 @@
-ghost use Rattle.std.specs.Prelude.{◌≡◌, ℕ, List, ◌<◌, ◌≤◌, min, max, length};
-ghost use Rattle.seq_vector.specs.Vectors.{entry, IsCovered, join, meet};
+ghost use Rattle.std.specs.Prelude.{◌≡◌, ◌↔◌, IsTrue, Some, None, ℕ, List, ◌<◌, ◌≤◌, min, max, length};
+ghost use Rattle.seq_vector.specs.Vectors.{entry, IsCovered, IsFirstShort, covers, first_short, join, meet};
 
 /// Law: to cover is an order on vectors of as many vBuckets.
 pub fn cover_is_order()
     ensures reflexive { (v : List ℕ) → IsCovered v v }
     ensures transitive { (u v w : List ℕ) → length u ≡ length v → IsCovered u v → IsCovered v w → IsCovered u w }
     ensures antisymmetric { (v w : List ℕ) → length v ≡ length w → IsCovered v w → IsCovered w v → v ≡ w }
+{}
+
+/// Law: the two tests answer what is told of each vBucket: `covers` is true exactly where the one reaches the other everywhere,
+/// and `first_short` gives the least vBucket where it doesn't, and none exactly where there is none.
+pub fn tests_tell_of_each_vbucket()
+    ensures covers { (have want : List ℕ) → IsTrue (covers have want) ↔ IsCovered want have }
+    ensures short { (have want : List ℕ) (vb : ℕ) → (first_short have want ≡ Some vb) ↔ IsFirstShort have want vb }
+    ensures none { (have want : List ℕ) → (first_short have want ≡ None) ↔ IsCovered want have }
 {}
 
 /// Law: the join is the least vector that covers both.

@@ -1,5 +1,6 @@
 ghost use Rattle.std.specs.Prelude.{◌≡◌, ◌+◌, ◌<◌, ◌≤◌, ◌↔◌, IsTrue, IsNone, IfSome, IfOk, length, slice_set};
-ghost use Rattle.seq_vector.specs.Vectors.{entry, zeros, IsCovered, IsFirstShort, join, meet};
+ghost use Rattle.n1ql_value.specs.Limits.{max_vbuckets};
+ghost use Rattle.seq_vector.specs.Vectors.{entry, zeros, IsCovered, IsFirstShort, covers, first_short, join, meet};
 
 use n1ql_value::Memory;
 use std::alloc::Global;
@@ -13,17 +14,22 @@ pub struct Vector {
 
 impl Model for Vector {
     ghost use Rattle.std.specs.Prelude.{List, ℕ, ◌<◌, ◌≤◌, vec_len};
+    ghost use Rattle.n1ql_value.specs.Limits.{max_vbuckets};
 
     ghost Value = { List ℕ };
 
     ghost view = { λ v. v.numbers.items };
 
-    ghost invariant = { λ v. (0 < vec_len v.numbers) × (vec_len v.numbers ≤ 1024) };
+    ghost invariant = { λ v. (0 < vec_len v.numbers) × (vec_len v.numbers ≤ max_vbuckets) };
 }
 
 /// The vector of `n` vBuckets in which nothing has come yet.
+///
+/// # Errors
+///
+/// `Memory` where it ran out.
 pub fn zero(alloc: Global, n: u32) -> Result<Vector, Memory>
-    requires { (0 < n) × (n ≤ 1024) }
+    requires { (0 < n) × (n ≤ max_vbuckets) }
     ensures { IfOk result (λ v. v ≡ zeros n) }
 {
     let numbers = vec![in alloc; 0; n as usize]?;
@@ -34,7 +40,7 @@ impl Vector {
     /// The number of vBuckets.
     pub fn len(&self) -> u32
         ensures count { result ≡ length self.now }
-        ensures bounds { (0 < result) × (result ≤ 1024) }
+        ensures bounds { (0 < result) × (result ≤ max_vbuckets) }
     {
         self.numbers.len() as u32
     }
@@ -58,7 +64,8 @@ impl Vector {
     /// Whether each entry is at least the other's.
     pub fn covers(&self, other: &Vector) -> bool
         requires { length self.now ≡ length other.now }
-        ensures { IsTrue result ↔ IsCovered other.now self.now }
+        ensures test { result ≡ covers self.now other.now }
+        ensures entries { IsTrue result ↔ IsCovered other.now self.now }
     {
         self.first_short(other).is_none()
     }
@@ -66,6 +73,7 @@ impl Vector {
     /// The least vBucket at which this vector is below `want`. `None` exactly where it covers `want`.
     pub fn first_short(&self, want: &Vector) -> Option<u32>
         requires { length self.now ≡ length want.now }
+        ensures test { result ≡ first_short self.now want.now }
         ensures none { IsNone result ↔ IsCovered want.now self.now }
         ensures first { IfSome result (IsFirstShort self.now want.now) }
     {
@@ -100,6 +108,10 @@ impl Vector {
     }
 
     /// A vector with the same numbers.
+    ///
+    /// # Errors
+    ///
+    /// `Memory` where it ran out.
     pub fn copy(&self, alloc: Global) -> Result<Vector, Memory>
         ensures { IfOk result (λ v. v ≡ self.now) }
     {

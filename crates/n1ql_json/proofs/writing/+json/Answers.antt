@@ -16,7 +16,8 @@ use Rattle.n1ql_value.specs.Depth.{largest, depth, pairs_depth, depth-array, dep
 use Rattle.n1ql_value.specs.Names.{NamesGrow}
 use Rattle.n1ql_json.specs.Json.{json_of}
 use Rattle.n1ql_json.proofs.Held.{is_held, is_held_pair, is_value-layer, is_int64-fits, all_more, all_taken, array_held, items_held, object_held, pair_held}
-use Rattle.n1ql_json.proofs.Layers.{Entry, view-Null, view-Bool, json_of-layer, depth_at, pair_depth_at, put_more}
+use Rattle.n1ql_value.proofs.Slices.{depth_at, pair_depth_at}
+use Rattle.n1ql_json.proofs.Layers.{Entry, view-Null, view-Bool, json_of-layer, put_more}
 use Rattle.n1ql_json.proofs.writing.+json.Goals as goal
 
 pub json_items-json_value-requires : goal.json_items-json_value-requires

@@ -4,7 +4,7 @@ use Rattle.n1ql_value.specs.declared.value.Value.{Value}
 use Rattle.n1ql_value.specs.Datum.{datum_of, pair_of}
 use Rattle.n1ql_value.specs.Depth.{largest, depth, pairs_depth, depth-array, depth-object}
 use Rattle.n1ql_value.specs.Collation.{value_cmp}
-use Rattle.n1ql_value.specs.CollationOfValues.{numbers_by_value, strings_by_bytes, arrays_by_elements, objects_by_pairs, number_apart, string_apart, array_apart, object_apart, plain_apart}
+use Rattle.n1ql_value.proofs.CollationOfValues.{numbers_by_value, strings_by_bytes, arrays_by_elements, objects_by_pairs, number_apart, string_apart, array_apart, object_apart, plain_apart}
 use Rattle.n1ql_value.proofs.Slices.{compare_end, depth_at, pair_depth_at}
 use Rattle.n1ql_value.proofs.collation.+collation.Goals as goal
 
