@@ -1,11 +1,13 @@
-pub mod Marks
-pub mod Called
+pub mod Keywords
+pub mod Callees
 pub mod Operators
 pub mod Grammar
 pub mod Faults
 pub mod Names
 pub mod Evaluation
 pub mod Forms
+pub mod Bindings
+pub mod Equality
 pub mod Conjunction
 pub mod Statements
 pub mod FormedStatements

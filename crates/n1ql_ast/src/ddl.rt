@@ -1,5 +1,5 @@
-use crate::Names;
 use crate::create::Create;
+use crate::names::Names;
 use n1ql_value::Text;
 
 /// A statement on indexes.

@@ -1,5 +1,5 @@
-use crate::Names;
 use crate::agg::Agg;
+use crate::names::Names;
 use crate::test::Test;
 use n1ql_value::{Fun, Op, Text, Value};
 use sqlite_items::{Boxed, Items};

@@ -2,34 +2,33 @@
 #![tactic(auto)]
 
 mod agg;
-mod called;
+mod callee;
 mod create;
 mod ddl;
 mod expr;
 mod key;
-mod kind;
-mod mark;
-mod phrase;
+mod keyword;
+pub mod laws;
+mod names;
 mod resolution;
 mod scope;
 mod test;
+mod token_class;
+mod unresolved_expr;
 
 pub use agg::Agg;
-pub use called::{Called, called_by};
+pub use callee::{Callee, callee_of};
 pub use create::Create;
 pub use ddl::Ddl;
 pub use expr::{Expr, Exprs};
 pub use key::{Key, Keys};
-pub use kind::Kind;
-pub use mark::Mark;
-use n1ql_value::{ListOf, Text};
-pub use phrase::{Phrase, Phrases};
+pub use keyword::Keyword;
+pub use names::{Names, copy_names};
 pub use resolution::resolve;
 pub use scope::Scope;
 pub use test::Test;
-
-/// Names, in order.
-pub type Names = ListOf<Text>;
+pub use token_class::TokenClass;
+pub use unresolved_expr::{UnresolvedExpr, UnresolvedExprs};
 
 #[cfg(test)]
 mod tests;

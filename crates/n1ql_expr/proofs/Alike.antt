@@ -7,7 +7,7 @@ use Rattle.std.specs.declared.cmp.Ordering.TheVariants.{Less, Equal, Greater}
 use Rattle.n1ql_value.specs.declared.value.Value.{Value}
 use Rattle.n1ql_value.specs.Datum.{datum_of, value_of, value_of-datum_of}
 use Rattle.n1ql_value.specs.Collation.{value_cmp}
-use Rattle.n1ql_value.specs.CollationLaws.{value_cmp-exact, value_cmp-total}
+use Rattle.n1ql_value.specs.inner.CollationLaws.{value_cmp-exact, value_cmp-total}
 
 is_equal : (o : Ordering) → IsTrue (is_eq o) → o ≡ Equal
 is_equal Equal h = refl

@@ -1,7 +1,7 @@
 ghost use Rattle.std.specs.Prelude.{◌≡◌, IfOk};
 
-use n1ql_ast::{Expr, Exprs, Names};
-use n1ql_value::{Memory, Text};
+use n1ql_ast::{Expr, Exprs, copy_names};
+use n1ql_value::Memory;
 use sqlite_items::Boxed;
 use std::alloc::Global;
 
@@ -11,7 +11,7 @@ use std::alloc::Global;
 ///
 /// `Memory` where memory ran out.
 #[cycle(copies)]
-pub fn copied(alloc: Global, e: &Expr) -> Result<Expr, Memory>
+pub fn copy(alloc: Global, e: &Expr) -> Result<Expr, Memory>
     ensures { IfOk result (λ x. x ≡ e.now) }
 {
     match e {
@@ -35,7 +35,7 @@ pub fn copied(alloc: Global, e: &Expr) -> Result<Expr, Memory>
         Expr::Call(fun, args) => Ok(Expr::Call(*fun, list(alloc, args)?)),
         Expr::List(items) => Ok(Expr::List(list(alloc, items)?)),
         Expr::Build(names, values) => Ok(Expr::Build(
-            copied_names(alloc, names)?,
+            copy_names(alloc, names)?,
             list(alloc, values)?,
         )),
         Expr::Case(whens, thens, other) => Ok(Expr::Case(
@@ -74,7 +74,7 @@ pub fn copied(alloc: Global, e: &Expr) -> Result<Expr, Memory>
 fn boxed(alloc: Global, e: &Expr) -> Result<Boxed<Expr>, Memory>
     ensures { IfOk result (λ x. x ≡ e.now) }
 {
-    Ok(Boxed::new(alloc, copied(alloc, e)?)?)
+    Ok(Boxed::new(alloc, copy(alloc, e)?)?)
 }
 
 /// A part that there may be, again.
@@ -95,18 +95,7 @@ fn list(alloc: Global, es: &Exprs) -> Result<Exprs, Memory>
 {
     let mut made = Exprs::new(alloc);
     for e in es.as_slice() {
-        made.push(copied(alloc, e)?)?;
-    }
-    Ok(made)
-}
-
-/// The same names again.
-fn copied_names(alloc: Global, names: &Names) -> Result<Names, Memory>
-    ensures { IfOk result (λ ns. ns ≡ names.now) }
-{
-    let mut made = Names::new(alloc);
-    for name in names.as_slice() {
-        made.push(name.copy(alloc)?)?;
+        made.push(copy(alloc, e)?)?;
     }
     Ok(made)
 }

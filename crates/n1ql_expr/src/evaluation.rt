@@ -5,11 +5,10 @@ ghost use Rattle.n1ql_value.specs.declared.value.Value.TheVariants as value;
 ghost use Rattle.n1ql_value.specs.Kinds.{or_missing, or_null};
 ghost use Rattle.n1ql_ast.specs.Evaluation.{elements_given, first_case, over_elements, passes, value_at_element, value_of, values_in};
 ghost use Rattle.n1ql_ast.specs.Forms.{IsWellFormed, all_hold, held_if_any, is_well_formed};
-ghost use Rattle.n1ql_expr.specs.Scopes.{environment_of, found_value};
+ghost use Rattle.n1ql_expr.specs.Scopes.{environment_of, operand_value};
 
-use crate::env::Env;
-use crate::found::Found;
 use crate::made::{arguments, array, meta, object, push_given, without_elements};
+use crate::operand::Operand;
 use crate::scope::Scope;
 use n1ql_ast::Expr;
 use n1ql_funcs::{call, is_true};
@@ -17,17 +16,16 @@ use n1ql_value::{Memory, Text, Vals, Value};
 use sqlite_items::Boxed;
 use std::alloc::Global;
 
-/// The value of an expression in an environment. An aggregate has no rows here, and is MISSING.
+/// The value of an expression in a scope. An aggregate has no rows here, and is MISSING.
 ///
 /// # Errors
 ///
 /// `Memory` where memory ran out.
-pub fn eval(alloc: Global, e: &Expr, env: &Env) -> Result<Value, Memory>
+pub fn eval<'a>(alloc: Global, e: &'a Expr, scope: &'a Scope<'a>) -> Result<Value, Memory>
     requires { IsWellFormed e.now }
-    ensures { IfOk result (λ v. v ≡ value_of e.now env.now) }
+    ensures { IfOk result (λ v. v ≡ value_of e.now (environment_of scope.now)) }
 {
-    let scope = Scope::Outermost(&*env);
-    evaluate(alloc, &*e, &scope)?.into_value(alloc)
+    evaluate(alloc, &*e, &*scope)?.into_value(alloc)
 }
 
 /// The value of an expression in a scope, where it stands if it stands somewhere.
@@ -36,16 +34,16 @@ pub fn eval(alloc: Global, e: &Expr, env: &Env) -> Result<Value, Memory>
 ///
 /// `Memory` where memory ran out.
 #[cycle(evaluation)]
-pub fn evaluate<'a>(alloc: Global, e: &'a Expr, scope: &'a Scope<'a>) -> Result<Found<'a>, Memory>
+pub fn evaluate<'a>(alloc: Global, e: &'a Expr, scope: &'a Scope<'a>) -> Result<Operand<'a>, Memory>
     requires { IsWellFormed e.now }
-    ensures { IfOk result (λ f. found_value f ≡ value_of e.now (environment_of scope.now)) }
+    ensures { IfOk result (λ f. operand_value f ≡ value_of e.now (environment_of scope.now)) }
 {
     match e {
-        Expr::Const(value) => Ok(Found::Held(value)),
-        Expr::Doc => Ok(Found::Held(scope.base().doc())),
-        Expr::MetaOf(own) => Ok(Found::Made(meta(alloc, *own, scope.base())?)),
-        Expr::Var(name) => Ok(Found::or_missing(scope.bound_to(name))),
-        Expr::Key(at) => Ok(Found::or_missing(scope.base().key(*at))),
+        Expr::Const(value) => Ok(Operand::Held(value)),
+        Expr::Doc => Ok(Operand::Held(scope.base().doc)),
+        Expr::MetaOf(own) => Ok(Operand::Made(meta(alloc, *own, scope.base().id)?)),
+        Expr::Var(name) => Ok(Operand::or_missing(scope.bound_to(name))),
+        Expr::Key(at) => Ok(Operand::or_missing(scope.base().key(*at))),
         Expr::Field(x, name) => evaluate(alloc, x.get(), scope)?.field(alloc, name),
         Expr::Place(x, at) => {
             let value = evaluate(alloc, x.get(), scope)?;
@@ -69,22 +67,22 @@ pub fn evaluate<'a>(alloc: Global, e: &'a Expr, scope: &'a Scope<'a>) -> Result<
         }
         Expr::Call(fun, args) => {
             let args = arguments(alloc, all(alloc, args.as_slice(), scope)?)?;
-            Ok(Found::Made(call(alloc, *fun, &args)?))
+            Ok(Operand::Made(call(alloc, *fun, &args)?))
         }
         Expr::List(items) => {
             let values = all(alloc, items.as_slice(), scope)?;
-            Ok(Found::Made(array(alloc, values)?))
+            Ok(Operand::Made(array(alloc, values)?))
         }
         Expr::Build(names, values) => {
             let values = all(alloc, values.as_slice(), scope)?;
-            Ok(Found::Made(object(alloc, names, values)?))
+            Ok(Operand::Made(object(alloc, names, values)?))
         }
         Expr::Case(whens, thens, other) => {
             match case(alloc, whens.as_slice(), thens.as_slice(), scope)? {
                 Some(found) => Ok(found),
                 None => match other {
                     Some(other) => evaluate(alloc, other.get(), scope),
-                    None => Ok(Found::Made(Value::Null)),
+                    None => Ok(Operand::Made(Value::Null)),
                 },
             }
         }
@@ -104,7 +102,7 @@ pub fn evaluate<'a>(alloc: Global, e: &'a Expr, scope: &'a Scope<'a>) -> Result<
             let over = evaluate(alloc, over.get(), scope)?;
             first(alloc, item.get(), part(when), name, over, scope)
         }
-        Expr::Agg(_, _) => Ok(Found::Made(Value::Missing)),
+        Expr::Agg(_, _) => Ok(Operand::Made(Value::Missing)),
     }
 }
 
@@ -138,11 +136,11 @@ fn case<'a>(
     whens: &'a [Expr],
     thens: &'a [Expr],
     scope: &'a Scope<'a>,
-) -> Result<Option<Found<'a>>, Memory>
+) -> Result<Option<Operand<'a>>, Memory>
     requires whens { IsTrue (all_hold (map is_well_formed whens.now)) }
     requires thens { IsTrue (all_hold (map is_well_formed thens.now)) }
     requires counts { length whens.now ≡ length thens.now }
-    ensures { IfOk result (λ f. option_map found_value f ≡
+    ensures { IfOk result (λ f. option_map operand_value f ≡
         first_case (values_in (map value_of whens.now) (environment_of scope.now)) (values_in (map value_of thens.now) (environment_of scope.now))) }
 {
     for at in 0..whens.len() {
@@ -204,19 +202,19 @@ fn any<'a>(
     alloc: Global,
     test: &'a Expr,
     name: &'a Text,
-    over: Found<'a>,
+    over: Operand<'a>,
     scope: &'a Scope<'a>,
-) -> Result<Found<'a>, Memory>
+) -> Result<Operand<'a>, Memory>
     requires { IsWellFormed test.now }
-    ensures { IfOk result (λ f. found_value f ≡
-        over_elements (λ vs. value.Bool (list_any (passes (Some (value_of test.now)) name.now (environment_of scope.now)) vs)) (found_value over.entry)) }
+    ensures { IfOk result (λ f. operand_value f ≡
+        over_elements (λ vs. value.Bool (list_any (passes (Some (value_of test.now)) name.now (environment_of scope.now)) vs)) (operand_value over.entry)) }
 {
     match over.value() {
         Value::Array(items) => {
             let found = first_passing(alloc, Some(&*test), &*name, items.as_slice(), &*scope)?;
-            Ok(Found::Made(Value::Bool(found.is_some())))
+            Ok(Operand::Made(Value::Bool(found.is_some())))
         }
-        other => Ok(Found::Made(without_elements(other))),
+        other => Ok(Operand::Made(without_elements(other))),
     }
 }
 
@@ -226,19 +224,19 @@ fn every<'a>(
     alloc: Global,
     test: &'a Expr,
     name: &'a Text,
-    over: Found<'a>,
+    over: Operand<'a>,
     scope: &'a Scope<'a>,
-) -> Result<Found<'a>, Memory>
+) -> Result<Operand<'a>, Memory>
     requires { IsWellFormed test.now }
-    ensures { IfOk result (λ f. found_value f ≡
-        over_elements (λ vs. value.Bool (list_all (passes (Some (value_of test.now)) name.now (environment_of scope.now)) vs)) (found_value over.entry)) }
+    ensures { IfOk result (λ f. operand_value f ≡
+        over_elements (λ vs. value.Bool (list_all (passes (Some (value_of test.now)) name.now (environment_of scope.now)) vs)) (operand_value over.entry)) }
 {
     match over.value() {
         Value::Array(items) => {
             let holds = all_pass(alloc, &*test, &*name, items.as_slice(), &*scope)?;
-            Ok(Found::Made(Value::Bool(holds)))
+            Ok(Operand::Made(Value::Bool(holds)))
         }
-        other => Ok(Found::Made(without_elements(other))),
+        other => Ok(Operand::Made(without_elements(other))),
     }
 }
 
@@ -269,21 +267,21 @@ fn each<'a>(
     item: &'a Expr,
     when: Option<&'a Expr>,
     name: &'a Text,
-    over: Found<'a>,
+    over: Operand<'a>,
     scope: &'a Scope<'a>,
-) -> Result<Found<'a>, Memory>
+) -> Result<Operand<'a>, Memory>
     requires item { IsWellFormed item.now }
     requires when { IsTrue (held_if_any (option_map is_well_formed (option_copied when))) }
-    ensures { IfOk result (λ f. found_value f ≡
+    ensures { IfOk result (λ f. operand_value f ≡
         over_elements (λ vs. value.Array (elements_given (map (value_at_element (value_of item.now) name.now (environment_of scope.now))
-        (filter (passes (option_map value_of (option_copied when.entry)) name.now (environment_of scope.now)) vs)))) (found_value over.entry)) }
+        (filter (passes (option_map value_of (option_copied when.entry)) name.now (environment_of scope.now)) vs)))) (operand_value over.entry)) }
 {
     match over.value() {
         Value::Array(items) => {
             let made = listed(alloc, &*item, when, &*name, items.as_slice(), &*scope)?;
-            Ok(Found::Made(Value::Array(made)))
+            Ok(Operand::Made(Value::Array(made)))
         }
-        other => Ok(Found::Made(without_elements(other))),
+        other => Ok(Operand::Made(without_elements(other))),
     }
 }
 
@@ -325,14 +323,14 @@ fn first<'a>(
     item: &'a Expr,
     when: Option<&'a Expr>,
     name: &'a Text,
-    over: Found<'a>,
+    over: Operand<'a>,
     scope: &'a Scope<'a>,
-) -> Result<Found<'a>, Memory>
+) -> Result<Operand<'a>, Memory>
     requires item { IsWellFormed item.now }
     requires when { IsTrue (held_if_any (option_map is_well_formed (option_copied when))) }
-    ensures { IfOk result (λ f. found_value f ≡
+    ensures { IfOk result (λ f. operand_value f ≡
         over_elements (λ vs. or_missing (option_map (value_at_element (value_of item.now) name.now (environment_of scope.now))
-        (find (passes (option_map value_of (option_copied when.entry)) name.now (environment_of scope.now)) vs))) (found_value over.entry)) }
+        (find (passes (option_map value_of (option_copied when.entry)) name.now (environment_of scope.now)) vs))) (operand_value over.entry)) }
 {
     match over.value() {
         Value::Array(items) => match first_passing(
@@ -348,10 +346,10 @@ fn first<'a>(
                     name: &*name,
                     value: &*value,
                 };
-                Ok(Found::Made(evaluate(alloc, &*item, &inner)?.into_value(alloc)?))
+                Ok(Operand::Made(evaluate(alloc, &*item, &inner)?.into_value(alloc)?))
             }
-            None => Ok(Found::Made(Value::Missing)),
+            None => Ok(Operand::Made(Value::Missing)),
         },
-        other => Ok(Found::Made(without_elements(other))),
+        other => Ok(Operand::Made(without_elements(other))),
     }
 }

@@ -4,21 +4,18 @@
 mod conjunction;
 mod copies;
 mod env;
+mod equality;
 mod evaluation;
-mod found;
-mod laws;
+mod key_copies;
+pub mod laws;
 mod made;
-mod sameness;
+mod operand;
 mod scope;
 
-pub use conjunction::{Conjuncts, conjuncts};
-pub use copies::copied;
+pub use conjunction::{Conjuncts, conjuncts, conjuncts_in};
+pub use copies::copy;
 pub use env::Env;
+pub use equality::same;
 pub use evaluation::eval;
-pub use laws::between_is_two_comparisons;
-pub use sameness::same;
-
-#[cfg(test)]
-mod tables;
-#[cfg(test)]
-mod tests;
+pub use key_copies::copy_keys;
+pub use scope::Scope;

@@ -1,7 +1,7 @@
 //! Values that are made of the values of the parts.
 
-ghost use Rattle.std.specs.Prelude.{◌≡◌, IfOk, length, map, ◌++◌, ◌∷◌, [], None, OnOk, if◌then◌else◌};
-ghost use Rattle.std.specs.Option.{option_map};
+ghost use Rattle.std.specs.Prelude.{◌≡◌, IfOk, length, map, ◌++◌, ◌∷◌, [], None, OnOk, OnErr, if◌then◌else◌};
+ghost use Rattle.std.specs.Option.{option_copied, option_map};
 ghost use Rattle.std.specs.List.{zip};
 ghost use Rattle.n1ql_value.specs.declared.value.Value.TheVariants.{Missing};
 ghost use Rattle.n1ql_value.specs.Datum.{datum_of, pair_of};
@@ -10,23 +10,30 @@ ghost use Rattle.n1ql_value.specs.Kinds as kinds;
 ghost use Rattle.n1ql_value.specs.declared.value.Value.TheVariants as values;
 ghost use Rattle.n1ql_value.specs.Constructors.{array_of, object_of};
 ghost use Rattle.n1ql_value.specs.Constructors as constructors;
-ghost use Rattle.n1ql_ast.specs.Evaluation.{elements_given, meta_of, test_of};
+ghost use Rattle.n1ql_ast.specs.Evaluation.{elements_given, test_of};
+ghost use Rattle.n1ql_ast.specs.Evaluation as spec;
 
-use crate::env::Env;
 use n1ql_ast::{Names, Test};
 use n1ql_funcs::{Truth, is_missing, is_null, is_valued};
 use n1ql_value::{Memory, Pairs, Text, Vals, Value};
 use std::alloc::Global;
 
-/// META: the object of the document's id, or MISSING where it is that of another name.
-pub fn meta(alloc: Global, own: bool, env: &Env) -> Result<Value, Memory>
-    ensures { IfOk result (λ v. v ≡ (if own then or_missing (option_map meta_of env.now.id) else Missing)) }
+/// META: the object of the document's id, or MISSING where there is no document or it is that of another name.
+pub fn meta(alloc: Global, own: bool, id: Option<&Text>) -> Result<Value, Memory>
+    ensures { IfOk result (λ v. v ≡ (if own then or_missing (option_map spec.meta_of (option_copied id.entry)) else Missing)) }
 {
-    if !own {
-        return Ok(Value::Missing);
+    match id {
+        Some(id) if own => meta_of(alloc, id),
+        _ => Ok(Value::Missing),
     }
+}
+
+/// META of the document with an id.
+fn meta_of(alloc: Global, id: &Text) -> Result<Value, Memory>
+    ensures { IfOk result (λ v. v ≡ spec.meta_of id.now) }
+{
     let mut pairs = Pairs::new(alloc);
-    let id = Value::Text(env.id().copy(alloc)?);
+    let id = Value::Text(id.copy(alloc)?);
     pairs.put(Text::of(alloc, "id")?, id)?;
     Ok(Value::Object(pairs))
 }
@@ -118,7 +125,8 @@ fn put_given(alloc: Global, made: &mut Pairs, name: &Text, value: Value) -> Resu
 /// Adds a value that isn't MISSING at the end.
 #[tactic(auto, using(crate::proofs::Values::read_back))]
 pub fn push_given(made: &mut Vals, value: Value) -> Result<(), Memory>
-    ensures { OnOk result (made.new ≡ made.old ++ elements_given (value ∷ [])) }
+    ensures ok { OnOk result (made.new ≡ made.old ++ elements_given (value ∷ [])) }
+    ensures err { OnErr result (made.new ≡ made.old) }
 {
     if !is_missing(&value) {
         made.push(value)?;

@@ -5,13 +5,13 @@ use Rattle.std.specs.List.{prefix_len, take_while}
 use Rattle.std.proofs.lemmas.Bool.{cond_both, cond-true, eqb-true}
 use Rattle.std.proofs.lemmas.Bool.Decides.{nat_tests}
 use Rattle.std.proofs.lemmas.List.Sums.{prefix_len_passes, prefix_len-le-length, prefix_len-drop_yes}
-use Rattle.n1ql_lex.specs.declared.found.Found.{Found}
+use Rattle.n1ql_lex.specs.declared.lexeme.Lexeme.{Lexeme}
 use Rattle.n1ql_lex.specs.declared.opening.Opening.{Opening}
 use Rattle.n1ql_lex.specs.declared.opening.Opening.TheVariants as opening
 use Rattle.n1ql_lex.specs.declared.token_kind.TokenKind.{TokenKind}
 use Rattle.n1ql_lex.specs.declared.token_kind.TokenKind.TheVariants.{Name, Str}
 use Rattle.n1ql_lex.specs.Bytes.{is_blank, is_letter, is_word_byte, opening_of}
-use Rattle.n1ql_lex.specs.Found.{IsFound, IsFoundOf}
+use Rattle.n1ql_lex.specs.Lexemes.{IsLexeme, IsLexemeOf}
 use Rattle.n1ql_lex.specs.Signs.{sign_of}
 use Rattle.n1ql_lex.specs.Tokens.{IsToken, IsTokenOf}
 use Rattle.n1ql_lex.proofs.Cuts.{EndsInAscii, ends_later}
@@ -113,6 +113,6 @@ pub blank-no_token : {text : List ℕ} {kind : TokenKind} {len : ℕ} → is_bla
 blank-no_token {text} {kind} {len} b t = subst (λ o. IsTokenOf o text kind len) (opening_of-blank (get_or text 0 0) b) t.token
 
 -- what the search for an opening's token found is what stands at the front
-pub found-here : (text : List ℕ) (o : Opening) (found : Option Found) → 0 < length text → opening_of (get_or text 0 0) ≡ o → IsFoundOf o text found → IsFound text found
+pub found-here : (text : List ℕ) (o : Opening) (found : Option Lexeme) → 0 < length text → opening_of (get_or text 0 0) ≡ o → IsLexemeOf o text found → IsLexeme text found
 found-here text o (Some found) some e h = record { some = some; token = subst (λ p. IsTokenOf p text found.kind found.len) (sym e) h }
 found-here text o None some e h = λ kind len t. h kind len (subst (λ p. IsTokenOf p text kind len) e t.token)

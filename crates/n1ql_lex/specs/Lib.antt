@@ -4,5 +4,5 @@ pub mod Numbers
 pub mod Signs
 pub mod Quoted
 pub mod Tokens
-pub mod Found
+pub mod Lexemes
 pub mod Spans

@@ -1,9 +1,9 @@
 ghost use Rattle.std.specs.Prelude.{◌≡◌, IfOk, IfErr};
-ghost use Rattle.n1ql_lex.specs.Found.{IsFaultOf, IsFound};
+ghost use Rattle.n1ql_lex.specs.Lexemes.{IsFaultOf, IsLexeme};
 ghost use Rattle.n1ql_lex.specs.Tokens.{IsTokens};
 
-use crate::found::Found;
 use crate::lex_fault::LexFault;
+use crate::lexeme::Lexeme;
 use crate::number::number_at;
 use crate::opening::{Opening, is_blank, opening_of};
 use crate::quoted_text::{name_at, string_at};
@@ -14,8 +14,8 @@ use n1ql_value::Memory;
 use std::alloc::Global;
 
 /// The token at the front of a text.
-fn token_at(alloc: Global, text: &str) -> Result<Option<Found>, Memory>
-    ensures { IfOk result (IsFound text.now) }
+fn token_at(alloc: Global, text: &str) -> Result<Option<Lexeme>, Memory>
+    ensures { IfOk result (IsLexeme text.now) }
 {
     let Some(first) = text.as_bytes().first() else {
         return Ok(None);

@@ -1,9 +1,9 @@
 //! The tokens of N1QL, each with its place in the text.
 #![tactic(auto)]
 
-mod found;
-mod laws;
+pub mod laws;
 mod lex_fault;
+mod lexeme;
 mod lexer;
 mod number;
 mod opening;
@@ -14,11 +14,7 @@ mod token;
 mod token_kind;
 mod word;
 
-pub use laws::{one_fault, one_token_list, spans_grow, tokens_or_fault};
 pub use lex_fault::LexFault;
 pub use lexer::tokens;
 pub use token::{Token, Tokens};
 pub use token_kind::TokenKind;
-
-#[cfg(test)]
-mod tests;

@@ -2,10 +2,10 @@ ghost use Rattle.std.specs.Prelude.{◌≡◌, ◌^◌, ◌≤◌, length, Match
 ghost use Rattle.std.specs.Option.{SomeIff};
 ghost use Rattle.std.specs.List.{AllPass, prefix_len};
 ghost use Rattle.std.specs.Char.{is_ascii_digit};
-ghost use Rattle.n1ql_lex.specs.Found.{IsFoundOf};
+ghost use Rattle.n1ql_lex.specs.Lexemes.{IsLexemeOf};
 ghost use Rattle.n1ql_lex.specs.Numbers.{digits_of, goes_on, has_leading_zero, is_number, value_of};
 
-use crate::found::Found;
+use crate::lexeme::Lexeme;
 use crate::opening::{Opening, is_letter};
 use crate::token_kind::TokenKind;
 
@@ -75,12 +75,12 @@ fn number_of(bytes: &[u8], len: usize) -> Option<u64>
 }
 
 /// The number at the front.
-pub fn number_at(bytes: &[u8]) -> Option<Found>
-    ensures { IsFoundOf Opening.Number bytes.now result }
+pub fn number_at(bytes: &[u8]) -> Option<Lexeme>
+    ensures { IsLexemeOf Opening.Number bytes.now result }
 {
     let len = digits_len(bytes);
     let number = number_of(bytes, len)?;
-    Some(Found {
+    Some(Lexeme {
         kind: TokenKind::Num(number),
         len,
     })

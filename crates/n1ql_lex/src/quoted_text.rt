@@ -1,9 +1,9 @@
 ghost use Rattle.std.specs.Prelude.{◌≡◌, ℕ, List, ◌<◌, ◌≤◌, IfOk, IfSome, MatchOption, length, slice_index};
 ghost use Rattle.std.specs.List.{prefix_len};
-ghost use Rattle.n1ql_lex.specs.Found.{IsFoundOf};
+ghost use Rattle.n1ql_lex.specs.Lexemes.{IsLexemeOf};
 ghost use Rattle.n1ql_lex.specs.Quoted.{is_plain, IsQuoted};
 
-use crate::found::Found;
+use crate::lexeme::Lexeme;
 use crate::opening::Opening;
 use crate::quoted_part::{QuotedPart, is_plain, part_at};
 use crate::token_kind::TokenKind;
@@ -61,14 +61,14 @@ fn quoted_text(alloc: Global, quote: u8, body: &str) -> Result<Option<QuotedText
 }
 
 /// The string at the front of a text, whose first byte is its quote.
-pub fn string_at(alloc: Global, text: &str) -> Result<Option<Found>, Memory>
+pub fn string_at(alloc: Global, text: &str) -> Result<Option<Lexeme>, Memory>
     requires some { 0 < length text.now }
     requires quote { slice_index text.now 0 < 128 }
-    ensures { IfOk result (IsFoundOf Opening.String text.now) }
+    ensures { IfOk result (IsLexemeOf Opening.String text.now) }
 {
     let quote = text.as_bytes()[0];
     match quoted_text(alloc, quote, &text[1..])? {
-        Some(quoted) => Ok(Some(Found {
+        Some(quoted) => Ok(Some(Lexeme {
             kind: TokenKind::Str(quoted.text),
             len: quoted.len + 1,
         })),
@@ -77,10 +77,10 @@ pub fn string_at(alloc: Global, text: &str) -> Result<Option<Found>, Memory>
 }
 
 /// The name in backquotes at the front of a text, whose first byte is the backquote.
-pub fn name_at(alloc: Global, text: &str) -> Result<Option<Found>, Memory>
+pub fn name_at(alloc: Global, text: &str) -> Result<Option<Lexeme>, Memory>
     requires some { 0 < length text.now }
     requires quote { slice_index text.now 0 < 128 }
-    ensures { IfOk result (IsFoundOf Opening.Name text.now) }
+    ensures { IfOk result (IsLexemeOf Opening.Name text.now) }
 {
     let quote = text.as_bytes()[0];
     let Some(quoted) = quoted_text(alloc, quote, &text[1..])? else {
@@ -89,7 +89,7 @@ pub fn name_at(alloc: Global, text: &str) -> Result<Option<Found>, Memory>
     if quoted.text.as_str().is_empty() {
         return Ok(None);
     }
-    Ok(Some(Found {
+    Ok(Some(Lexeme {
         kind: TokenKind::Name {
             text: quoted.text,
             quoted: true,

@@ -1,8 +1,8 @@
 ghost use Rattle.std.specs.Prelude.{◌≡◌, ◌≤◌, IfOk, length};
-ghost use Rattle.n1ql_lex.specs.Found.{IsFoundOf};
+ghost use Rattle.n1ql_lex.specs.Lexemes.{IsLexemeOf};
 ghost use Rattle.n1ql_lex.specs.Signs.{is_sign, is_sign_of_two, sign_of};
 
-use crate::found::Found;
+use crate::lexeme::Lexeme;
 use crate::opening::Opening;
 use crate::token_kind::TokenKind;
 use n1ql_value::{Memory, Text};
@@ -39,13 +39,13 @@ fn sign_len(bytes: &[u8]) -> usize
 }
 
 /// The sign at the front of a text.
-pub fn sign_at(alloc: Global, text: &str) -> Result<Option<Found>, Memory>
-    ensures { IfOk result (IsFoundOf Opening.Sign text.now) }
+pub fn sign_at(alloc: Global, text: &str) -> Result<Option<Lexeme>, Memory>
+    ensures { IfOk result (IsLexemeOf Opening.Sign text.now) }
 {
     let len = sign_len(text.as_bytes());
     if len == 0 {
         return Ok(None);
     }
     let kind = TokenKind::Sign(Text::of(alloc, &text[..len])?);
-    Ok(Some(Found { kind, len }))
+    Ok(Some(Lexeme { kind, len }))
 }

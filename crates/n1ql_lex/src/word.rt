@@ -5,7 +5,7 @@ ghost use Rattle.n1ql_lex.specs.Bytes.{is_word_byte};
 ghost use Rattle.n1ql_lex.specs.Tokens.{IsTokenOf};
 ghost use Rattle.n1ql_lex.specs.Words.{kind_of_word, reserved_word_of};
 
-use crate::found::Found;
+use crate::lexeme::Lexeme;
 use crate::opening::{Opening, is_word_byte};
 use crate::token_kind::TokenKind;
 use n1ql_value::{Memory, Text};
@@ -136,10 +136,10 @@ fn kind_of_word(alloc: Global, word: &str) -> Result<TokenKind, Memory>
 }
 
 /// The word at the front of a text.
-pub fn word_at(alloc: Global, text: &str) -> Result<Found, Memory>
+pub fn word_at(alloc: Global, text: &str) -> Result<Lexeme, Memory>
     ensures { IfOk result (λ found. IsTokenOf Opening.Word text.now found.kind found.len) }
 {
     let len = word_len(text.as_bytes());
     let kind = kind_of_word(alloc, &text[..len])?;
-    Ok(Found { kind, len })
+    Ok(Lexeme { kind, len })
 }

@@ -3,8 +3,8 @@ use Rattle.std.proofs.Common.{◌≡◌, ℕ, suc, Bool, true, false, ◌||◌, 
 use Rattle.n1ql_value.specs.declared.op.Op.TheVariants as op
 use Rattle.n1ql_ast.specs.declared.agg.Agg.TheVariants as over_rows
 use Rattle.n1ql_ast.specs.declared.expr.Expr.TheOpen.{Expr-F}
-use Rattle.n1ql_ast.specs.declared.kind.Kind.{Kind}
-use Rattle.n1ql_ast.specs.declared.phrase.Phrase.{Phrase}
+use Rattle.n1ql_ast.specs.declared.token_class.TokenClass.{TokenClass}
+use Rattle.n1ql_ast.specs.declared.unresolved_expr.UnresolvedExpr.{UnresolvedExpr}
 use Rattle.n1ql_ast.specs.declared.test.Test.TheVariants as test
 use Rattle.n1ql_ast.specs.Grammar as g
 use Rattle.n1ql_ast.specs.Grammar.{IsExpr, MoreOr, IsAnd, MoreAnd, IsNot, IsRel, MayTest, IsTest, IsRange, IsAdd, MoreAdd, IsMul, MoreMul, IsNeg, IsPost, MorePost, IsPrim, IsExprs, MoreExprs, IsObject, IsPairs, MorePairs, IsArms, MoreArms, MayElse, IsQuantified, IsEach, MayWhen}
@@ -20,47 +20,47 @@ allows-less : (good : Expr-F Bool → Bool) → Allows good true → Allows good
 allows-less good ok l counts none = ok l counts (or-more (is_no_aggregate l) none)
 
 -- the pairs of an object, and the arms of CASE
-record Entries (good : Expr-F Bool → Bool) (names : List (List ℕ)) (xs : List Phrase) : Type 0 where
+record Entries (good : Expr-F Bool → Bool) (names : List (List ℕ)) (xs : List UnresolvedExpr) : Type 0 where
   count : length names ≡ length xs
   values : KeepAll good xs
 
-record Arms (good : Expr-F Bool → Bool) (xs ys : List Phrase) : Type 0 where
+record Arms (good : Expr-F Bool → Bool) (xs ys : List UnresolvedExpr) : Type 0 where
   count : length xs ≡ length ys
   whens : KeepAll good xs
   thens : KeepAll good ys
 
-record Over (good : Expr-F Bool → Bool) (x y : Phrase) : Type 0 where
+record Over (good : Expr-F Bool → Bool) (x y : UnresolvedExpr) : Type 0 where
   first : Keeps good x
   second : Keeps good y
 
-pub record Items (good : Expr-F Bool → Bool) (x y : Phrase) (when : Option Phrase) : Type 0 where
+pub record Items (good : Expr-F Bool → Bool) (x y : UnresolvedExpr) (when : Option UnresolvedExpr) : Type 0 where
   pub item : Keeps good x
   pub over : Keeps good y
   pub passes : KeepsIfAny good when
 
 mutual
-  pub kept : (good : Expr-F Bool → Bool) (agg : Bool) {ts rest : List Kind} {x : Phrase} → Allows good agg → IsExpr agg ts x rest → Keeps good x
+  pub kept : (good : Expr-F Bool → Bool) (agg : Bool) {ts rest : List TokenClass} {x : UnresolvedExpr} → Allows good agg → IsExpr agg ts x rest → Keeps good x
   kept good agg ok (g.expr p m) = kept-or good agg ok (kept-and good agg ok p) m
 
-  kept-or : (good : Expr-F Bool → Bool) (agg : Bool) {ts rest : List Kind} {x y : Phrase} → Allows good agg → Keeps good x → MoreOr agg x ts y rest → Keeps good y
+  kept-or : (good : Expr-F Bool → Bool) (agg : Bool) {ts rest : List TokenClass} {x y : UnresolvedExpr} → Allows good agg → Keeps good x → MoreOr agg x ts y rest → Keeps good y
   kept-or good agg ok k g.or_done = k
   kept-or good agg ok k (g.or_more {x = x} {y = y} p m) = kept-or good agg ok (keeps-Two good agg op.Or x y ok k (kept-and good agg ok p)) m
 
-  kept-and : (good : Expr-F Bool → Bool) (agg : Bool) {ts rest : List Kind} {x : Phrase} → Allows good agg → IsAnd agg ts x rest → Keeps good x
+  kept-and : (good : Expr-F Bool → Bool) (agg : Bool) {ts rest : List TokenClass} {x : UnresolvedExpr} → Allows good agg → IsAnd agg ts x rest → Keeps good x
   kept-and good agg ok (g.and p m) = kept-more_and good agg ok (kept-not good agg ok p) m
 
-  kept-more_and : (good : Expr-F Bool → Bool) (agg : Bool) {ts rest : List Kind} {x y : Phrase} → Allows good agg → Keeps good x → MoreAnd agg x ts y rest → Keeps good y
+  kept-more_and : (good : Expr-F Bool → Bool) (agg : Bool) {ts rest : List TokenClass} {x y : UnresolvedExpr} → Allows good agg → Keeps good x → MoreAnd agg x ts y rest → Keeps good y
   kept-more_and good agg ok k g.and_done = k
   kept-more_and good agg ok k (g.and_more {x = x} {y = y} p m) = kept-more_and good agg ok (keeps-Two good agg op.And x y ok k (kept-not good agg ok p)) m
 
-  kept-not : (good : Expr-F Bool → Bool) (agg : Bool) {ts rest : List Kind} {x : Phrase} → Allows good agg → IsNot agg ts x rest → Keeps good x
+  kept-not : (good : Expr-F Bool → Bool) (agg : Bool) {ts rest : List TokenClass} {x : UnresolvedExpr} → Allows good agg → IsNot agg ts x rest → Keeps good x
   kept-not good agg ok (g.not_not {x = x} p) = keeps-Not good agg x ok (kept-not good agg ok p)
   kept-not good agg ok (g.not_rel p) = kept-rel good agg ok p
 
-  kept-rel : (good : Expr-F Bool → Bool) (agg : Bool) {ts rest : List Kind} {x : Phrase} → Allows good agg → IsRel agg ts x rest → Keeps good x
+  kept-rel : (good : Expr-F Bool → Bool) (agg : Bool) {ts rest : List TokenClass} {x : UnresolvedExpr} → Allows good agg → IsRel agg ts x rest → Keeps good x
   kept-rel good agg ok (g.rel p m) = kept-test good agg ok (kept-add good agg ok p) m
 
-  kept-test : (good : Expr-F Bool → Bool) (agg : Bool) {ts rest : List Kind} {x y : Phrase} → Allows good agg → Keeps good x → MayTest agg x ts y rest → Keeps good y
+  kept-test : (good : Expr-F Bool → Bool) (agg : Bool) {ts rest : List TokenClass} {x y : UnresolvedExpr} → Allows good agg → Keeps good x → MayTest agg x ts y rest → Keeps good y
   kept-test good agg ok k g.test_none = k
   kept-test good agg ok k (g.test_compare {o = o} {x = x} {y = y} e p) = keeps-Two good agg o x y ok k (kept-add good agg ok p)
   kept-test good agg ok k (g.test_is p) = kept-is good agg ok k p
@@ -68,43 +68,43 @@ mutual
   kept-test good agg ok k (g.test_range p) = kept-range good agg ok k p
   kept-test good agg ok k (g.test_not_range {y = y} p) = keeps-Not good agg y ok (kept-range good agg ok k p)
 
-  kept-is : (good : Expr-F Bool → Bool) (agg : Bool) {ts rest : List Kind} {x y : Phrase} → Allows good agg → Keeps good x → IsTest x ts y rest → Keeps good y
+  kept-is : (good : Expr-F Bool → Bool) (agg : Bool) {ts rest : List TokenClass} {x y : UnresolvedExpr} → Allows good agg → Keeps good x → IsTest x ts y rest → Keeps good y
   kept-is good agg ok k (g.is_null {x = x}) = keeps-Is good agg test.Null x ok k
   kept-is good agg ok k (g.is_missing {x = x}) = keeps-Is good agg test.Missing x ok k
   kept-is good agg ok k (g.is_valued {x = x}) = keeps-Is good agg test.Valued x ok k
 
-  kept-range : (good : Expr-F Bool → Bool) (agg : Bool) {ts rest : List Kind} {x y : Phrase} → Allows good agg → Keeps good x → IsRange agg x ts y rest → Keeps good y
+  kept-range : (good : Expr-F Bool → Bool) (agg : Bool) {ts rest : List TokenClass} {x y : UnresolvedExpr} → Allows good agg → Keeps good x → IsRange agg x ts y rest → Keeps good y
   kept-range good agg ok k (g.range_in {x = x} {y = y} p) = keeps-Among good agg x y ok k (kept-add good agg ok p)
   kept-range good agg ok k (g.range_between {x = x} {low = low} {high = high} p q) = keeps-Between good agg x low high ok k (kept-add good agg ok p) (kept-add good agg ok q)
 
-  kept-add : (good : Expr-F Bool → Bool) (agg : Bool) {ts rest : List Kind} {x : Phrase} → Allows good agg → IsAdd agg ts x rest → Keeps good x
+  kept-add : (good : Expr-F Bool → Bool) (agg : Bool) {ts rest : List TokenClass} {x : UnresolvedExpr} → Allows good agg → IsAdd agg ts x rest → Keeps good x
   kept-add good agg ok (g.add p m) = kept-more_add good agg ok (kept-mul good agg ok p) m
 
-  kept-more_add : (good : Expr-F Bool → Bool) (agg : Bool) {ts rest : List Kind} {x y : Phrase} → Allows good agg → Keeps good x → MoreAdd agg x ts y rest → Keeps good y
+  kept-more_add : (good : Expr-F Bool → Bool) (agg : Bool) {ts rest : List TokenClass} {x y : UnresolvedExpr} → Allows good agg → Keeps good x → MoreAdd agg x ts y rest → Keeps good y
   kept-more_add good agg ok k g.add_done = k
   kept-more_add good agg ok k (g.add_more {o = o} {x = x} {y = y} e p m) = kept-more_add good agg ok (keeps-Two good agg o x y ok k (kept-mul good agg ok p)) m
 
-  kept-mul : (good : Expr-F Bool → Bool) (agg : Bool) {ts rest : List Kind} {x : Phrase} → Allows good agg → IsMul agg ts x rest → Keeps good x
+  kept-mul : (good : Expr-F Bool → Bool) (agg : Bool) {ts rest : List TokenClass} {x : UnresolvedExpr} → Allows good agg → IsMul agg ts x rest → Keeps good x
   kept-mul good agg ok (g.mul p m) = kept-more_mul good agg ok (kept-neg good agg ok p) m
 
-  kept-more_mul : (good : Expr-F Bool → Bool) (agg : Bool) {ts rest : List Kind} {x y : Phrase} → Allows good agg → Keeps good x → MoreMul agg x ts y rest → Keeps good y
+  kept-more_mul : (good : Expr-F Bool → Bool) (agg : Bool) {ts rest : List TokenClass} {x y : UnresolvedExpr} → Allows good agg → Keeps good x → MoreMul agg x ts y rest → Keeps good y
   kept-more_mul good agg ok k g.mul_done = k
   kept-more_mul good agg ok k (g.mul_more {o = o} {x = x} {y = y} e p m) = kept-more_mul good agg ok (keeps-Two good agg o x y ok k (kept-neg good agg ok p)) m
 
-  kept-neg : (good : Expr-F Bool → Bool) (agg : Bool) {ts rest : List Kind} {x : Phrase} → Allows good agg → IsNeg agg ts x rest → Keeps good x
+  kept-neg : (good : Expr-F Bool → Bool) (agg : Bool) {ts rest : List TokenClass} {x : UnresolvedExpr} → Allows good agg → IsNeg agg ts x rest → Keeps good x
   kept-neg good agg ok (g.neg_neg {x = x} p) = keeps-Neg good agg x ok (kept-neg good agg ok p)
   kept-neg good agg ok g.neg_least = keeps-Const good agg _ ok
   kept-neg good agg ok (g.neg_post p) = kept-post good agg ok p
 
-  kept-post : (good : Expr-F Bool → Bool) (agg : Bool) {ts rest : List Kind} {x : Phrase} → Allows good agg → IsPost agg ts x rest → Keeps good x
+  kept-post : (good : Expr-F Bool → Bool) (agg : Bool) {ts rest : List TokenClass} {x : UnresolvedExpr} → Allows good agg → IsPost agg ts x rest → Keeps good x
   kept-post good agg ok (g.post p m) = kept-path good agg ok (kept-prim good agg ok p) m
 
-  kept-path : (good : Expr-F Bool → Bool) (agg : Bool) {ts rest : List Kind} {x y : Phrase} → Allows good agg → Keeps good x → MorePost agg x ts y rest → Keeps good y
+  kept-path : (good : Expr-F Bool → Bool) (agg : Bool) {ts rest : List TokenClass} {x y : UnresolvedExpr} → Allows good agg → Keeps good x → MorePost agg x ts y rest → Keeps good y
   kept-path good agg ok k g.post_done = k
   kept-path good agg ok k (g.post_field {name = name} {x = x} m) = kept-path good agg ok (keeps-Field good agg x name ok k) m
   kept-path good agg ok k (g.post_place {x = x} {y = y} p m) = kept-path good agg ok (keeps-Place good agg x y ok k (kept good agg ok p)) m
 
-  kept-prim : (good : Expr-F Bool → Bool) (agg : Bool) {ts rest : List Kind} {x : Phrase} → Allows good agg → IsPrim agg ts x rest → Keeps good x
+  kept-prim : (good : Expr-F Bool → Bool) (agg : Bool) {ts rest : List TokenClass} {x : UnresolvedExpr} → Allows good agg → IsPrim agg ts x rest → Keeps good x
   kept-prim good agg ok (g.prim_number below) = keeps-Const good agg _ ok
   kept-prim good agg ok g.prim_string = keeps-Const good agg _ ok
   kept-prim good agg ok g.prim_true = keeps-Const good agg _ ok
@@ -112,7 +112,7 @@ mutual
   kept-prim good agg ok g.prim_null = keeps-Const good agg _ ok
   kept-prim good agg ok g.prim_missing = keeps-Const good agg _ ok
   kept-prim good agg ok (g.prim_name {name = name}) = keeps-Name good agg name ok
-  kept-prim good agg ok (g.prim_bracket p) = kept good agg ok p
+  kept-prim good agg ok (g.prim_parenthesis p) = kept good agg ok p
   kept-prim good agg ok g.prim_empty = keeps-List good agg [] ok (keep-none good)
   kept-prim good agg ok (g.prim_list {xs = xs} p) = keeps-List good agg xs ok (kept-all good agg ok p)
   kept-prim good agg ok (g.prim_object p) = kept-object good agg ok p
@@ -133,29 +133,29 @@ mutual
   kept-prim good agg ok (g.prim_aggregate {a = a} {x = x} is p) =
       keeps-Agg good a (Some x) ok (keeps-if-some good x (kept good false (allows-less good ok) p))
 
-  kept-all : (good : Expr-F Bool → Bool) (agg : Bool) {ts rest : List Kind} {xs : List Phrase} → Allows good agg → IsExprs agg ts xs rest → KeepAll good xs
+  kept-all : (good : Expr-F Bool → Bool) (agg : Bool) {ts rest : List TokenClass} {xs : List UnresolvedExpr} → Allows good agg → IsExprs agg ts xs rest → KeepAll good xs
   kept-all good agg ok (g.exprs {x = x} {xs = xs} p m) = keep-more good x xs (kept good agg ok p) (kept-more_all good agg ok m)
 
-  kept-more_all : (good : Expr-F Bool → Bool) (agg : Bool) {ts rest : List Kind} {xs : List Phrase} → Allows good agg → MoreExprs agg ts xs rest → KeepAll good xs
+  kept-more_all : (good : Expr-F Bool → Bool) (agg : Bool) {ts rest : List TokenClass} {xs : List UnresolvedExpr} → Allows good agg → MoreExprs agg ts xs rest → KeepAll good xs
   kept-more_all good agg ok g.exprs_done = keep-none good
   kept-more_all good agg ok (g.exprs_more p) = kept-all good agg ok p
 
-  pub kept-object : (good : Expr-F Bool → Bool) (agg : Bool) {ts rest : List Kind} {x : Phrase} → Allows good agg → IsObject agg ts x rest → Keeps good x
+  pub kept-object : (good : Expr-F Bool → Bool) (agg : Bool) {ts rest : List TokenClass} {x : UnresolvedExpr} → Allows good agg → IsObject agg ts x rest → Keeps good x
   kept-object good agg ok g.object_empty = keeps-Build good agg [] [] ok refl (keep-none good)
   kept-object good agg ok (g.object_pairs {names = names} {xs = xs} p) =
       let q = kept-pairs good agg ok p in keeps-Build good agg names xs ok q.count q.values
 
-  kept-pairs : (good : Expr-F Bool → Bool) (agg : Bool) {ts rest : List Kind} {names : List (List ℕ)} {xs : List Phrase} → Allows good agg →
+  kept-pairs : (good : Expr-F Bool → Bool) (agg : Bool) {ts rest : List TokenClass} {names : List (List ℕ)} {xs : List UnresolvedExpr} → Allows good agg →
       IsPairs agg ts names xs rest → Entries good names xs
   kept-pairs good agg ok (g.pairs {x = x} {xs = xs} p m) =
       let q = kept-more_pairs good agg ok m in record { count = ap suc q.count; values = keep-more good x xs (kept good agg ok p) q.values }
 
-  kept-more_pairs : (good : Expr-F Bool → Bool) (agg : Bool) {ts rest : List Kind} {names : List (List ℕ)} {xs : List Phrase} → Allows good agg →
+  kept-more_pairs : (good : Expr-F Bool → Bool) (agg : Bool) {ts rest : List TokenClass} {names : List (List ℕ)} {xs : List UnresolvedExpr} → Allows good agg →
       MorePairs agg ts names xs rest → Entries good names xs
   kept-more_pairs good agg ok g.pairs_done = record { count = refl; values = keep-none good }
   kept-more_pairs good agg ok (g.pairs_more p) = kept-pairs good agg ok p
 
-  kept-arms : (good : Expr-F Bool → Bool) (agg : Bool) {ts rest : List Kind} {whens thens : List Phrase} → Allows good agg →
+  kept-arms : (good : Expr-F Bool → Bool) (agg : Bool) {ts rest : List TokenClass} {whens thens : List UnresolvedExpr} → Allows good agg →
       IsArms agg ts whens thens rest → Arms good whens thens
   kept-arms good agg ok (g.arms {x = x} {y = y} {whens = whens} {thens = thens} p q m) =
       let r = kept-more_arms good agg ok m in
@@ -165,24 +165,24 @@ mutual
         thens = keep-more good y thens (kept good agg ok q) r.thens;
       }
 
-  kept-more_arms : (good : Expr-F Bool → Bool) (agg : Bool) {ts rest : List Kind} {whens thens : List Phrase} → Allows good agg →
+  kept-more_arms : (good : Expr-F Bool → Bool) (agg : Bool) {ts rest : List TokenClass} {whens thens : List UnresolvedExpr} → Allows good agg →
       MoreArms agg ts whens thens rest → Arms good whens thens
   kept-more_arms good agg ok g.arms_done = record { count = refl; whens = keep-none good; thens = keep-none good }
   kept-more_arms good agg ok (g.arms_more p) = kept-arms good agg ok p
 
-  kept-else : (good : Expr-F Bool → Bool) (agg : Bool) {ts rest : List Kind} {other : Option Phrase} → Allows good agg → MayElse agg ts other rest → KeepsIfAny good other
+  kept-else : (good : Expr-F Bool → Bool) (agg : Bool) {ts rest : List TokenClass} {other : Option UnresolvedExpr} → Allows good agg → MayElse agg ts other rest → KeepsIfAny good other
   kept-else good agg ok g.else_none = keeps-if-none good
   kept-else good agg ok (g.else_some {x = x} p) = keeps-if-some good x (kept good agg ok p)
 
-  kept-quantified : (good : Expr-F Bool → Bool) (agg : Bool) {ts rest : List Kind} {name : List ℕ} {over test : Phrase} → Allows good agg →
+  kept-quantified : (good : Expr-F Bool → Bool) (agg : Bool) {ts rest : List TokenClass} {name : List ℕ} {over test : UnresolvedExpr} → Allows good agg →
       IsQuantified agg ts name over test rest → Over good over test
   kept-quantified good agg ok (g.quantified p q) = record { first = kept good agg ok p; second = kept good agg ok q }
 
-  pub kept-each : (good : Expr-F Bool → Bool) (agg : Bool) {ts rest : List Kind} {name : List ℕ} {item over : Phrase} {when : Option Phrase} → Allows good agg →
+  pub kept-each : (good : Expr-F Bool → Bool) (agg : Bool) {ts rest : List TokenClass} {name : List ℕ} {item over : UnresolvedExpr} {when : Option UnresolvedExpr} → Allows good agg →
       IsEach agg ts name item over when rest → Items good item over when
   kept-each good agg ok (g.each p q m) =
       record { item = kept good agg ok p; over = kept good agg ok q; passes = kept-when good agg ok m }
 
-  kept-when : (good : Expr-F Bool → Bool) (agg : Bool) {ts rest : List Kind} {when : Option Phrase} → Allows good agg → MayWhen agg ts when rest → KeepsIfAny good when
+  kept-when : (good : Expr-F Bool → Bool) (agg : Bool) {ts rest : List TokenClass} {when : Option UnresolvedExpr} → Allows good agg → MayWhen agg ts when rest → KeepsIfAny good when
   kept-when good agg ok g.when_none = keeps-if-none good
   kept-when good agg ok (g.when_some {x = x} p) = keeps-if-some good x (kept good agg ok p)

@@ -3,7 +3,7 @@ pub mod Reading
 mod Kept
 mod Formed
 mod Whole
-mod Evaluable
+mod FormedDefinitions
 mod WholeStatements
 mod Texts
 mod OneAnswer

@@ -1,10 +1,10 @@
-pub mod Fronts
+pub mod Prefixes
 pub mod Looks
 pub mod Combined
-pub mod Levels
+pub mod Precedences
 pub mod Taken
 pub mod Chains
-pub mod Heads
+pub mod Lookahead
 pub mod Choices
 pub mod Zero
 pub mod Binary

@@ -1,10 +1,10 @@
 -- From what the rules of a language read to the trees and faults of a text.
-use Rattle.std.proofs.Common.{◌≡◌, ℕ, ◌-◌, ◌≤◌, List, [], ◌∷◌, length, map, refl, sym, ap, subst}
+use Rattle.std.proofs.Common.{◌≡◌, ℕ, ◌-◌, ◌≤◌, List, [], ◌∷◌, length, refl, subst}
 use Rattle.std.specs.Prelude.{Result, Ok, Err, IfOk, IfErr}
 use Rattle.std.proofs.lemmas.List.{length-map}
 use Rattle.n1ql_ast.specs.declared.ddl.Ddl.{Ddl}
-use Rattle.n1ql_ast.specs.declared.kind.Kind.{Kind}
-use Rattle.n1ql_ast.specs.declared.phrase.Phrase.{Phrase}
+use Rattle.n1ql_ast.specs.declared.token_class.TokenClass.{TokenClass}
+use Rattle.n1ql_ast.specs.declared.unresolved_expr.UnresolvedExpr.{UnresolvedExpr}
 use Rattle.n1ql_ast.specs.Faults.{FollowsExpr, Leaves}
 use Rattle.n1ql_ast.specs.Grammar.{IsWhole}
 use Rattle.n1ql_ast.specs.Statements.{FollowsDdl, IsStatement}
@@ -12,23 +12,24 @@ use Rattle.n1ql_lex.specs.declared.token.Token.{Token}
 use Rattle.n1ql_lex.specs.Tokens.{IsTokens}
 use Rattle.n1ql_parse.specs.declared.parse_fault.ParseFault.{ParseFault}
 use Rattle.n1ql_parse.specs.declared.parse_fault.ParseFault.TheVariants as fault
-use Rattle.n1ql_parse.specs.declared.stop.Stop.{Stop}
-use Rattle.n1ql_parse.specs.declared.stop.Stop.TheVariants.{Fault, Memory}
-use Rattle.n1ql_parse.specs.Faults.{IsFaultIn, IsTokenFault, LeftOf, OnPlace, StopsIn, fault_at, not_few_tokens, no_text_goes_on}
-use Rattle.n1ql_parse.specs.Input.{kind_of, kinds_of}
-use Rattle.n1ql_parse.specs.Parser.{parsed, parsed_whole}
+use Rattle.n1ql_parse.specs.declared.tokens.parse_stop.ParseStop.{ParseStop}
+use Rattle.n1ql_parse.specs.declared.tokens.parse_stop.ParseStop.TheVariants.{Fault, Memory}
+use Rattle.n1ql_parse.specs.Faults.{IsFaultIn, IsTokenFault, OnPlace, not_few_tokens, no_text_goes_on}
+use Rattle.n1ql_parse.specs.inner.Stops.{LeftOf, StopsIn, fault_at}
+use Rattle.n1ql_parse.specs.Input.{class_of, classes_of}
+use Rattle.n1ql_parse.specs.inner.Parser.{parsed, parsed_whole}
 use Rattle.n1ql_parse.specs.Readings.{most_tokens}
-use Rattle.n1ql_parse.specs.Statements.{statement_parsed, whole_statement}
-use Rattle.n1ql_parse.specs.Steps.{Outcome, got, stuck, Parser, Gives, and_then, end_of}
+use Rattle.n1ql_parse.specs.inner.Statements.{statement_parsed, whole_statement}
+use Rattle.n1ql_parse.specs.inner.Steps.{Outcome, got, stuck, Parser, Gives, and_then, end_of}
 use Rattle.n1ql_parse.proofs.WholeStatements.{statement-reads-exactly, statement-reads-back, statement-faults-stuck, statement-faults-left}
 use Rattle.n1ql_parse.proofs.Whole.{reads-exactly, reads-back, faults-stuck, faults-left}
 
 -- A rule reads a whole list exactly where the language gives it the tree, and stops where the list leaves the language.
-pub record Exact {A : Type 0} (p : Parser A) (Is : List Kind → A → Type 0) : Type 0 where
-  pub reads : (ts : List Kind) (x : A) → p ts ≡ got x [] → Is ts x
-  pub back : (ts : List Kind) (x : A) → Is ts x → p ts ≡ got x []
-  pub is_stuck : (ts : List Kind) (left : ℕ) → p ts ≡ stuck left → (left ≤ length ts) × Leaves (λ us. (y : A) × Is us y) ts (length ts - left)
-  pub has_more : (ts : List Kind) (x : A) (t : Kind) (rest : List Kind) → p ts ≡ got x (t ∷ rest) →
+pub record Exact {A : Type 0} (p : Parser A) (Is : List TokenClass → A → Type 0) : Type 0 where
+  pub reads : (ts : List TokenClass) (x : A) → p ts ≡ got x [] → Is ts x
+  pub back : (ts : List TokenClass) (x : A) → Is ts x → p ts ≡ got x []
+  pub is_stuck : (ts : List TokenClass) (left : ℕ) → p ts ≡ stuck left → (left ≤ length ts) × Leaves (λ us. (y : A) × Is us y) ts (length ts - left)
+  pub has_more : (ts : List TokenClass) (x : A) (t : TokenClass) (rest : List TokenClass) → p ts ≡ got x (t ∷ rest) →
       (length (t ∷ rest) ≤ length ts) × Leaves (λ us. (y : A) × Is us y) ts (length ts - length (t ∷ rest))
 
 pub exact-expr : Exact parsed IsWhole
@@ -46,12 +47,12 @@ exact-statement = record {
 abbrev ended : {A : Type 0} → Outcome A → Outcome A
 ended o = and_then o (λ x rest. and_then (end_of rest) (λ _ us. got x us))
 
-read-ended : {A : Type 0} {p : Parser A} {Is : List Kind → A → Type 0} → Exact p Is → (ts : List Kind) (o : Outcome A) (x : A) → p ts ≡ o → ended o ≡ got x [] → Is ts x
+read-ended : {A : Type 0} {p : Parser A} {Is : List TokenClass → A → Type 0} → Exact p Is → (ts : List TokenClass) (o : Outcome A) (x : A) → p ts ≡ o → ended o ≡ got x [] → Is ts x
 read-ended {A} {p} {Is} exact ts (got y []) x e h = let same : y ≡ x = cc in subst (λ z. Is ts z) same (exact.reads ts y e)
 read-ended exact ts (got y (t ∷ rest)) x e h = cc
 read-ended exact ts (stuck left) x e h = cc
 
-stuck-ended : {A : Type 0} {p : Parser A} {Is : List Kind → A → Type 0} → Exact p Is → (ts : List Kind) (o : Outcome A) (left : ℕ) → p ts ≡ o → ended o ≡ stuck left →
+stuck-ended : {A : Type 0} {p : Parser A} {Is : List TokenClass → A → Type 0} → Exact p Is → (ts : List TokenClass) (o : Outcome A) (left : ℕ) → p ts ≡ o → ended o ≡ stuck left →
     (left ≤ length ts) × Leaves (λ us. (y : A) × Is us y) ts (length ts - left)
 stuck-ended exact ts (got y []) left e h = cc
 stuck-ended {A} {p} {Is} exact ts (got y (t ∷ rest)) left e h =
@@ -61,50 +62,50 @@ stuck-ended {A} {p} {Is} exact ts (stuck n) left e h =
     let same : n ≡ left = cc in
     subst (λ n. (n ≤ length ts) × Leaves (λ us. (y : A) × Is us y) ts (length ts - n)) same (exact.is_stuck ts n e)
 
-pub expr-read : (ts : List Kind) (x : Phrase) → parsed_whole ts ≡ got x [] → IsWhole ts x
+pub expr-read : (ts : List TokenClass) (x : UnresolvedExpr) → parsed_whole ts ≡ got x [] → IsWhole ts x
 unfolding parsed_whole
 expr-read ts x h = read-ended exact-expr ts (parsed ts) x refl h
 
-pub expr-stops : (ts : List Kind) (left : ℕ) → parsed_whole ts ≡ stuck left → StopsIn FollowsExpr ts (Fault left)
+pub expr-stops : (ts : List TokenClass) (left : ℕ) → parsed_whole ts ≡ stuck left → StopsIn FollowsExpr ts (Fault left)
 unfolding parsed_whole
 expr-stops ts left h = stuck-ended exact-expr ts (parsed ts) left refl h
 
-pub statement-read : (ts : List Kind) (d : Ddl) → whole_statement ts ≡ got d [] → IsStatement ts d
+pub statement-read : (ts : List TokenClass) (d : Ddl) → whole_statement ts ≡ got d [] → IsStatement ts d
 unfolding whole_statement
 statement-read ts d h = read-ended exact-statement ts (statement_parsed ts) d refl h
 
-pub statement-stops : (ts : List Kind) (left : ℕ) → whole_statement ts ≡ stuck left → StopsIn FollowsDdl ts (Fault left)
+pub statement-stops : (ts : List TokenClass) (left : ℕ) → whole_statement ts ≡ stuck left → StopsIn FollowsDdl ts (Fault left)
 unfolding whole_statement
 statement-stops ts left h = stuck-ended exact-statement ts (statement_parsed ts) left refl h
 
 -- what a whole list gives: its tree, or where reading stops
-pub expr-given : (ts kinds : List Kind) (r : Result Phrase Stop) → ts ≡ kinds → Gives (parsed_whole ts) r [] →
-    IfOk r (IsWhole kinds) × IfErr r (StopsIn FollowsExpr kinds)
-expr-given ts kinds (Ok x) same h = (subst (λ us. IsWhole us x) same (expr-read ts x h), tt)
-expr-given ts kinds (Err (Fault left)) same h = (tt, subst (λ us. StopsIn FollowsExpr us (Fault left)) same (expr-stops ts left h))
-expr-given ts kinds (Err Memory) same h = (tt, tt)
+pub expr-given : (ts classes : List TokenClass) (r : Result UnresolvedExpr ParseStop) → ts ≡ classes → Gives (parsed_whole ts) r [] →
+    IfOk r (IsWhole classes) × IfErr r (StopsIn FollowsExpr classes)
+expr-given ts classes (Ok x) same h = (subst (λ us. IsWhole us x) same (expr-read ts x h), tt)
+expr-given ts classes (Err (Fault left)) same h = (tt, subst (λ us. StopsIn FollowsExpr us (Fault left)) same (expr-stops ts left h))
+expr-given ts classes (Err Memory) same h = (tt, tt)
 
-pub statement-given : (ts kinds : List Kind) (r : Result Ddl Stop) → ts ≡ kinds → Gives (whole_statement ts) r [] →
-    IfOk r (IsStatement kinds) × IfErr r (StopsIn FollowsDdl kinds)
-statement-given ts kinds (Ok d) same h = (subst (λ us. IsStatement us d) same (statement-read ts d h), tt)
-statement-given ts kinds (Err (Fault left)) same h = (tt, subst (λ us. StopsIn FollowsDdl us (Fault left)) same (statement-stops ts left h))
-statement-given ts kinds (Err Memory) same h = (tt, tt)
+pub statement-given : (ts classes : List TokenClass) (r : Result Ddl ParseStop) → ts ≡ classes → Gives (whole_statement ts) r [] →
+    IfOk r (IsStatement classes) × IfErr r (StopsIn FollowsDdl classes)
+statement-given ts classes (Ok d) same h = (subst (λ us. IsStatement us d) same (statement-read ts d h), tt)
+statement-given ts classes (Err (Fault left)) same h = (tt, subst (λ us. StopsIn FollowsDdl us (Fault left)) same (statement-stops ts left h))
+statement-given ts classes (Err Memory) same h = (tt, tt)
 
 -- reading stops among the tokens of the text
-pub left-of : (Follows : List Kind → Type 0) (tokens : List Token) (stop : Stop) → StopsIn Follows (kinds_of tokens) stop → LeftOf (length tokens) stop
-left-of Follows tokens (Fault left) h = subst (λ n. left ≤ n) (length-map tokens (λ (token : Token). kind_of token.kind)) h.0
+pub left-of : (Follows : List TokenClass → Type 0) (tokens : List Token) (stop : ParseStop) → StopsIn Follows (classes_of tokens) stop → LeftOf (length tokens) stop
+left-of Follows tokens (Fault left) h = subst (λ n. left ≤ n) (length-map tokens (λ (token : Token). class_of token.kind)) h.0
 left-of Follows tokens Memory h = tt
 
 -- and the fault of the text is there
-pub fault-of : (Follows : List Kind → Type 0) (text : List ℕ) (tokens : List Token) (stop : Stop) → IsTokens text tokens → length tokens ≤ most_tokens →
-    StopsIn Follows (kinds_of tokens) stop → OnPlace (IsFaultIn Follows text) (fault_at text tokens stop)
+pub fault-of : (Follows : List TokenClass → Type 0) (text : List ℕ) (tokens : List Token) (stop : ParseStop) → IsTokens text tokens → length tokens ≤ most_tokens →
+    StopsIn Follows (classes_of tokens) stop → OnPlace (IsFaultIn Follows text) (fault_at text tokens stop)
 fault-of Follows text tokens (Fault left) cut few h =
     no_text_goes_on (length tokens - left) cut few
-    (subst (λ n. Leaves Follows (kinds_of tokens) (n - left)) (length-map tokens (λ (token : Token). kind_of token.kind)) h.1)
+    (subst (λ n. Leaves Follows (classes_of tokens) (n - left)) (length-map tokens (λ (token : Token). class_of token.kind)) h.1)
     refl
 fault-of Follows text tokens Memory cut few h = tt
 
 -- a text without few tokens has its fault there
-pub token-fault : (Follows : List Kind → Type 0) (text : List ℕ) (at : ParseFault) → OnPlace (IsTokenFault text) at → OnPlace (IsFaultIn Follows text) at
+pub token-fault : (Follows : List TokenClass → Type 0) (text : List ℕ) (at : ParseFault) → OnPlace (IsTokenFault text) at → OnPlace (IsFaultIn Follows text) at
 token-fault Follows text (fault.Fault at) h = not_few_tokens h
 token-fault Follows text fault.Memory h = tt

@@ -1,15 +1,13 @@
 -- The place of the fault of a text that has no tree.
-use Rattle.std.specs.Prelude.{◌≡◌, ℕ, ◌-◌, ◌≤◌, ◌<◌, List, [], ◌∷◌, length, drop, ⊤}
+use Rattle.std.specs.Prelude.{◌≡◌, ℕ, ◌≤◌, ◌<◌, List, [], ◌∷◌, length, drop, ⊤}
 use Rattle.n1ql_lex.specs.declared.token.Token.{Token}
 use Rattle.n1ql_lex.specs.Tokens.{IsFault, IsTokens}
-use Rattle.n1ql_ast.specs.declared.kind.Kind.{Kind}
+use Rattle.n1ql_ast.specs.declared.token_class.TokenClass.{TokenClass}
 use Rattle.n1ql_ast.specs.Faults.{FollowsExpr, Leaves}
 use Rattle.n1ql_ast.specs.Statements.{FollowsDdl}
 use Rattle.n1ql_parse.specs.declared.parse_fault.ParseFault.{ParseFault}
 use Rattle.n1ql_parse.specs.declared.parse_fault.ParseFault.TheVariants.{Fault, Memory}
-use Rattle.n1ql_parse.specs.declared.stop.Stop.{Stop}
-use Rattle.n1ql_parse.specs.declared.stop.Stop.TheVariants as stop
-use Rattle.n1ql_parse.specs.Input.{kinds_of}
+use Rattle.n1ql_parse.specs.Input.{classes_of}
 use Rattle.n1ql_parse.specs.Readings.{most_tokens}
 
 -- the place of the first token, or the end of the text where there is none
@@ -28,10 +26,10 @@ pub data IsTokenFault (text : List ℕ) (at : ℕ) : Type 0 where
       IsTokens text tokens → most_tokens < length tokens → at ≡ place_of text tokens most_tokens → IsTokenFault text at
 
 -- Such a fault, or else the place where the few tokens leave a language, which is given by the lists that follow it.
-pub data IsFaultIn (Follows : List Kind → Type 0) (text : List ℕ) (at : ℕ) : Type 0 where
+pub data IsFaultIn (Follows : List TokenClass → Type 0) (text : List ℕ) (at : ℕ) : Type 0 where
   not_few_tokens : IsTokenFault text at → IsFaultIn Follows text at
   no_text_goes_on : {tokens : List Token} (n : ℕ) →
-      IsTokens text tokens → length tokens ≤ most_tokens → Leaves Follows (kinds_of tokens) n → at ≡ place_of text tokens n →
+      IsTokens text tokens → length tokens ≤ most_tokens → Leaves Follows (classes_of tokens) n → at ≡ place_of text tokens n →
       IsFaultIn Follows text at
 
 -- the place of the fault of a text that is no expression
@@ -53,17 +51,3 @@ IsFaultOf text fault = OnPlace (IsFaultAt text) fault
 
 abbrev pub IsDdlFaultOf : List ℕ → ParseFault → Type 0
 IsDdlFaultOf text fault = OnPlace (IsDdlFaultAt text) fault
-
--- for private clauses: no more tokens are left than there are, and the tokens leave the language where so many are left
-abbrev pub LeftOf : ℕ → Stop → Type 0
-LeftOf n (stop.Fault left) = left ≤ n
-LeftOf n stop.Memory = ⊤
-
-abbrev pub StopsIn : (List Kind → Type 0) → List Kind → Stop → Type 0
-StopsIn Follows ts (stop.Fault left) = (left ≤ length ts) × Leaves Follows ts (length ts - left)
-StopsIn Follows ts stop.Memory = ⊤
-
--- for private clauses: the fault of a text of these tokens at which reading stopped
-abbrev pub fault_at : List ℕ → List Token → Stop → ParseFault
-fault_at text tokens (stop.Fault left) = Fault (place_of text tokens (length tokens - left))
-fault_at text tokens stop.Memory = Memory

@@ -1,25 +1,25 @@
 -- What the grammar sees of the tokens of a text.
 use Rattle.std.specs.Prelude.{List, map, Option, Some, None}
-use Rattle.n1ql_ast.specs.declared.kind.Kind.{Kind}
-use Rattle.n1ql_ast.specs.declared.kind.Kind.TheVariants as kind
-use Rattle.n1ql_ast.specs.declared.mark.Mark.{Mark}
-use Rattle.n1ql_ast.specs.Marks.{mark_spelt}
+use Rattle.n1ql_ast.specs.declared.token_class.TokenClass.{TokenClass}
+use Rattle.n1ql_ast.specs.declared.token_class.TokenClass.TheVariants as class
+use Rattle.n1ql_ast.specs.declared.keyword.Keyword.{Keyword}
+use Rattle.n1ql_ast.specs.Keywords.{keyword_spelt}
 use Rattle.n1ql_lex.specs.declared.token.Token.{Token}
 use Rattle.n1ql_lex.specs.declared.token_kind.TokenKind.{TokenKind}
 use Rattle.n1ql_lex.specs.declared.token_kind.TokenKind.TheVariants.{Word, Name, Str, Num, Sign}
 
--- a mark, where the spelling is that of one
-abbrev pub mark_kind : Option Mark → Kind
-mark_kind (Some mark) = kind.Mark mark
-mark_kind None = kind.Other
+-- a keyword, where the spelling is that of one
+abbrev pub keyword_class : Option Keyword → TokenClass
+keyword_class (Some keyword) = class.Keyword keyword
+keyword_class None = class.Other
 
 -- words and signs are told by their spelling; names, strings and numbers are what they are
-abbrev pub kind_of : TokenKind → Kind
-kind_of (Word text) = mark_kind (mark_spelt text)
-kind_of (Sign text) = mark_kind (mark_spelt text)
-kind_of (Name text quoted) = kind.Name text quoted
-kind_of (Str text) = kind.Str text
-kind_of (Num number) = kind.Num number
+abbrev pub class_of : TokenKind → TokenClass
+class_of (Word text) = keyword_class (keyword_spelt text)
+class_of (Sign text) = keyword_class (keyword_spelt text)
+class_of (Name text quoted) = class.Name text quoted
+class_of (Str text) = class.Str text
+class_of (Num number) = class.Num number
 
-abbrev pub kinds_of : List Token → List Kind
-kinds_of tokens = map (λ token. kind_of token.kind) tokens
+abbrev pub classes_of : List Token → List TokenClass
+classes_of tokens = map (λ token. class_of token.kind) tokens

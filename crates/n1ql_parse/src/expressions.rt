@@ -5,41 +5,58 @@ ghost use Rattle.n1ql_ast.specs.Faults.{FollowsExpr};
 ghost use Rattle.n1ql_ast.specs.Forms.{HasNoAggregate, IsWellFormed};
 ghost use Rattle.n1ql_ast.specs.Grammar.{IsWhole};
 ghost use Rattle.n1ql_lex.specs.Tokens.{IsTokens};
-ghost use Rattle.n1ql_parse.specs.Faults.{IsFaultOf, StopsIn};
-ghost use Rattle.n1ql_parse.specs.Input.{kinds_of};
-ghost use Rattle.n1ql_parse.specs.Parser as spec;
+ghost use Rattle.n1ql_parse.specs.Faults.{IsFaultOf};
+ghost use Rattle.n1ql_parse.specs.Input.{classes_of};
+ghost use Rattle.n1ql_parse.specs.inner.Parser as spec;
 ghost use Rattle.n1ql_parse.specs.Readings.{IsReading, most_tokens};
-ghost use Rattle.n1ql_parse.specs.Steps.{Gives};
+ghost use Rattle.n1ql_parse.specs.inner.Steps.{Gives};
+ghost use Rattle.n1ql_parse.specs.inner.Stops.{StopsIn};
 
-use crate::cursor::Cursor;
-use crate::inside::{on_document, parsed};
-use crate::kinds::kinds_of;
+pub mod arms;
+pub mod call;
+pub mod case;
+pub mod collection;
+pub mod comparison;
+pub mod each;
+pub mod grammar;
+pub mod inside;
+pub mod literal;
+pub mod lookahead;
+pub mod object_fields;
+pub mod path;
+pub mod precedence;
+pub mod primary;
+pub mod quantified;
+
+use crate::expressions::inside::{on_document, parsed};
 use crate::parse_fault::ParseFault;
-use crate::stop::Stop;
-use crate::text::{fault_at, few_tokens};
-use n1ql_ast::{Expr, Kind, Phrase};
+use crate::tokens::classes::classes_of;
+use crate::tokens::cursor::Cursor;
+use crate::tokens::parse_stop::ParseStop;
+use crate::tokens::text::{fault_at, few_tokens};
+use n1ql_ast::{Expr, TokenClass, UnresolvedExpr};
 use n1ql_lex::Token;
 use sqlite_items::Boxed;
 use std::alloc::Global;
 
-/// The phrase that a whole list of tokens is.
-#[tactic(auto, unfolding(crate::specs::Parser::parsed_whole))]
-fn parsed_whole(alloc: Global, kinds: &[Kind]) -> Result<Boxed<Phrase>, Stop>
-    ensures { Gives (spec.parsed_whole kinds.now) result [] }
+/// The unresolved expression that a whole list of tokens is.
+#[tactic(auto, unfolding(crate::specs::inner::Parser::parsed_whole))]
+fn parsed_whole(alloc: Global, classes: &[TokenClass]) -> Result<Boxed<UnresolvedExpr>, ParseStop>
+    ensures { Gives (spec.parsed_whole classes.now) result [] }
 {
-    let mut rest = Cursor::new(kinds);
-    let phrase = parsed(alloc, &mut rest)?;
+    let mut rest = Cursor::new(classes);
+    let unresolved = parsed(alloc, &mut rest)?;
     rest.end()?;
-    Ok(phrase)
+    Ok(unresolved)
 }
 
-/// The phrase that tokens are.
-fn phrase_of(alloc: Global, tokens: &[Token]) -> Result<Boxed<Phrase>, Stop>
-    ensures read { IfOk result (IsWhole (kinds_of tokens.now)) }
-    ensures stop { IfErr result (StopsIn FollowsExpr (kinds_of tokens.now)) }
+/// The unresolved expression that tokens are.
+fn unresolved_of(alloc: Global, tokens: &[Token]) -> Result<Boxed<UnresolvedExpr>, ParseStop>
+    ensures read { IfOk result (IsWhole (classes_of tokens.now)) }
+    ensures stop { IfErr result (StopsIn FollowsExpr (classes_of tokens.now)) }
 {
-    let kinds = kinds_of(alloc, tokens)?;
-    parsed_whole(alloc, kinds.as_slice())
+    let classes = classes_of(alloc, tokens)?;
+    parsed_whole(alloc, classes.as_slice())
 }
 
 /// The expression that the tokens of a text are.
@@ -51,8 +68,8 @@ fn read(alloc: Global, text: &str, alias: &str, tokens: &[Token]) -> Result<Expr
     ensures formed { IfOk result IsWellFormed }
     ensures plain { IfOk result HasNoAggregate }
 {
-    match phrase_of(alloc, tokens) {
-        Ok(phrase) => Ok(on_document(alloc, alias, phrase.get())?),
+    match unresolved_of(alloc, tokens) {
+        Ok(unresolved) => Ok(on_document(alloc, alias, unresolved.get())?),
         Err(stop) => Err(fault_at(text, tokens, stop)),
     }
 }

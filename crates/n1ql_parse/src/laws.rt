@@ -6,7 +6,7 @@ ghost use Rattle.n1ql_ast.specs.declared.expr.Expr.{Expr};
 ghost use Rattle.n1ql_parse.specs.Faults.{IsDdlFaultAt, IsFaultAt};
 ghost use Rattle.n1ql_parse.specs.Readings.{IsReading, IsReadingDdl};
 
-use n1ql_lex as lex;
+use n1ql_lex::laws as lex;
 
 /// A text is at most one expression.
 pub fn one_reading()

@@ -8,7 +8,7 @@ use Rattle.n1ql_value.specs.Kinds.{is_true, or_missing}
 use Rattle.n1ql_ast.specs.Evaluation.{elements_given, inside, passes, value_at_element, value_of}
 use Rattle.n1ql_ast.specs.Forms.{IsWellFormed, held_if_any, is_well_formed}
 use Rattle.n1ql_expr.specs.declared.scope.Scope.TheViews.{Inside}
-use Rattle.n1ql_expr.specs.Scopes.{environment_of, found_value}
+use Rattle.n1ql_expr.specs.Scopes.{environment_of, operand_value}
 use Rattle.n1ql_expr.proofs.Around.{around}
 use Rattle.n1ql_expr.proofs.Elements.{over_array, any_found, next_case, values_count}
 use Rattle.n1ql_expr.proofs.Parts.{weight, weight_if_any, weight_at, formed_at, count-Call, count-Build, parts-Two, parts-Between, parts-Any, parts-Every, parts-Each, parts-First}
@@ -19,13 +19,13 @@ any-returns-in-Array t c =
     let pass = passes (Some (value_of c.args.test.now)) c.args.name.now (environment_of c.args.scope.now) in
     let items = c.as_slice.result.now in
     ap value.Bool (c.is_some.ensures ∙ any_found pass c.in_ok-found-in-Array.found items c.in_ok-found-in-Array.ensures)
-    ∙ over_array (λ vs. value.Bool (list_any pass vs)) items (found_value c.args.over) c.in-Array.items (sym c.value.ensures ∙ c.in-Array.is) c.as_slice.ensures
+    ∙ over_array (λ vs. value.Bool (list_any pass vs)) items (operand_value c.args.over) c.in-Array.items (sym c.value.ensures ∙ c.in-Array.is) c.as_slice.ensures
 
 pub every-returns-in-Array : goal.every-returns-in-Array
 every-returns-in-Array t c =
     let pass = passes (Some (value_of c.args.test.now)) c.args.name.now (environment_of c.args.scope.now) in
     ap value.Bool c.in_ok-holds-in-Array.ensures
-    ∙ over_array (λ vs. value.Bool (list_all pass vs)) c.as_slice.result.now (found_value c.args.over) c.in-Array.items (sym c.value.ensures ∙ c.in-Array.is) c.as_slice.ensures
+    ∙ over_array (λ vs. value.Bool (list_all pass vs)) c.as_slice.result.now (operand_value c.args.over) c.in-Array.items (sym c.value.ensures ∙ c.in-Array.is) c.as_slice.ensures
 
 pub each-returns-in-Array : goal.each-returns-in-Array
 each-returns-in-Array t c =
@@ -33,7 +33,7 @@ each-returns-in-Array t c =
     let pass = passes (option_map value_of (option_copied c.args.when)) c.args.name.now env in
     let item = value_at_element (value_of c.args.item.now) c.args.name.now env in
     ap value.Array c.in_ok-made-in-Array.ensures
-    ∙ over_array (λ vs. value.Array (elements_given (map item (filter pass vs)))) c.as_slice.result.now (found_value c.args.over) c.in-Array.items (sym c.value.ensures ∙ c.in-Array.is) c.as_slice.ensures
+    ∙ over_array (λ vs. value.Array (elements_given (map item (filter pass vs)))) c.as_slice.result.now (operand_value c.args.over) c.in-Array.items (sym c.value.ensures ∙ c.in-Array.is) c.as_slice.ensures
 
 pub first-returns-in-Array : goal.first-returns-in-Array
 first-returns-in-Array t c =
@@ -42,7 +42,7 @@ first-returns-in-Array t c =
     let item = value_at_element (value_of c.args.item.now) c.args.name.now env in
     let none = ap option_copied (sym c.in-None.is) ∙ c.in_ok-value-in-Array.ensures in
     ap (λ found. or_missing (option_map item found)) none
-    ∙ over_array (λ vs. or_missing (option_map item (find pass vs))) c.as_slice.result.now (found_value c.args.over) c.in-Array.items (sym c.value.ensures ∙ c.in-Array.is) c.as_slice.ensures
+    ∙ over_array (λ vs. or_missing (option_map item (find pass vs))) c.as_slice.result.now (operand_value c.args.over) c.in-Array.items (sym c.value.ensures ∙ c.in-Array.is) c.as_slice.ensures
 
 pub first-returns-in-Some : goal.first-returns-in-Some
 first-returns-in-Some t c =
@@ -53,7 +53,7 @@ first-returns-in-Some t c =
     let shown : c.in_ok-into_value-in-Some.field-0 ≡ item c.in-Some.value.now = c.in_ok-into_value-in-Some.ensures ∙ (c.in_ok-evaluate-in-Some.ensures ∙ ap (value_of c.args.item.now) env_inside) in
     let some = ap option_copied (sym c.in-Some.is) ∙ c.in_ok-value-in-Array.ensures in
     shown ∙ (ap (λ found. or_missing (option_map item found)) some
-    ∙ over_array (λ vs. or_missing (option_map item (find pass vs))) c.as_slice.result.now (found_value c.args.over) c.in-Array.items (sym c.value.ensures ∙ c.in-Array.is) c.as_slice.ensures)
+    ∙ over_array (λ vs. or_missing (option_map item (find pass vs))) c.as_slice.result.now (operand_value c.args.over) c.in-Array.items (sym c.value.ensures ∙ c.in-Array.is) c.as_slice.ensures)
 
 pub evaluate-evaluate-requires-in-Two-2 : goal.evaluate-evaluate-requires-in-Two-2
 evaluate-evaluate-requires-in-Two-2 t c =

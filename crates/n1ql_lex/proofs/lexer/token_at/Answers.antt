@@ -2,7 +2,7 @@ use Rattle.std.proofs.Common.{◌≡◌, ◌<◌, length, get_or, sym, ap, ◌�
 use Rattle.std.proofs.lemmas.Result.{IfOk-weaker}
 use Rattle.n1ql_lex.specs.declared.opening.Opening.TheVariants as opening
 use Rattle.n1ql_lex.specs.Bytes.{opening_of}
-use Rattle.n1ql_lex.specs.Found.{IsFound, IsFoundOf}
+use Rattle.n1ql_lex.specs.Lexemes.{IsLexeme, IsLexemeOf}
 use Rattle.n1ql_lex.proofs.TokenLemmas.{string-ascii, name-ascii, found-here}
 use Rattle.n1ql_lex.proofs.lexer.token_at.Goals as goal
 
@@ -21,7 +21,7 @@ returns-in-String c =
     let text = c.args.text.now in
     let first : c.in-Some.first.now ≡ get_or text 0 0 = c.in-Some.ensures.item.4 (omega arith) 0 ∙ ap (λ bytes. get_or bytes 0 0) c.as_bytes.ensures.value in
     let some : 0 < length text = omega (arith, c.in-Some.ensures.item.3.0, ap length c.as_bytes.ensures.value) in
-    IfOk-weaker c.string_at.result (IsFoundOf opening.String text) (IsFound text)
+    IfOk-weaker c.string_at.result (IsLexemeOf opening.String text) (IsLexeme text)
     (λ found h. found-here text opening.String found some (ap opening_of (sym first) ∙ sym c.in-String.ensures) h) c.string_at.ensures
 
 pub returns-in-Name : goal.returns-in-Name
@@ -29,5 +29,5 @@ returns-in-Name c =
     let text = c.args.text.now in
     let first : c.in-Some.first.now ≡ get_or text 0 0 = c.in-Some.ensures.item.4 (omega arith) 0 ∙ ap (λ bytes. get_or bytes 0 0) c.as_bytes.ensures.value in
     let some : 0 < length text = omega (arith, c.in-Some.ensures.item.3.0, ap length c.as_bytes.ensures.value) in
-    IfOk-weaker c.name_at.result (IsFoundOf opening.Name text) (IsFound text)
+    IfOk-weaker c.name_at.result (IsLexemeOf opening.Name text) (IsLexeme text)
     (λ found h. found-here text opening.Name found some (ap opening_of (sym first) ∙ sym c.in-Name.ensures) h) c.name_at.ensures

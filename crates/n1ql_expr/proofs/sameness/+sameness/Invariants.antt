@@ -1,5 +1,0 @@
-use Rattle.std.proofs.Common.{◌≡◌, take}
-use Rattle.n1ql_expr.proofs.sameness.+sameness.Given as goal
-
-abbrev pub invariant-same_all-loop-at : goal.invariant-same_all-loop-at
-invariant-same_all-loop-at l = take l.at l.a ≡ take l.at l.b

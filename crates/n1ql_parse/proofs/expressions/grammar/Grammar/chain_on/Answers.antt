@@ -1,0 +1,39 @@
+use Rattle.std.proofs.Common.{rules, arith}
+use Rattle.std.proofs.lemmas.Grind.{common_steps}
+use Rattle.n1ql_parse.specs.inner.Parser.{at, chain_on, chain_from}
+use Rattle.n1ql_parse.proofs.Turns.{one_more, no_more}
+use Rattle.n1ql_parse.proofs.expressions.grammar.Grammar.chain_on.Goals as goal
+
+pub loop-turn-init : goal.loop-turn-init
+unfolding chain_on
+loop-turn-init g c = first_of (search rules, grind (arith, common_steps))
+
+pub returns-in_default : goal.returns-in_default
+unfolding chain_from
+returns-in_default g c =
+    let e = one_more (λ n. chain_from (at c.args.self.now.fuel) c.args.self.now.agg c.args.precedence n c.loop-turn.x c.loop-turn.tokens) _ c.loop-turn._turn c.loop-turn-test.true c.loop-turn.invariant in
+    first_of (search rules, grind (arith, common_steps))
+
+pub returns-in_err-y : goal.returns-in_err-y
+unfolding chain_from
+returns-in_err-y g c =
+    let e = one_more (λ n. chain_from (at c.args.self.now.fuel) c.args.self.now.agg c.args.precedence n c.loop-turn.x c.loop-turn.tokens) _ c.loop-turn._turn c.loop-turn-test.true c.loop-turn.invariant in
+    first_of (search rules, grind (arith, common_steps))
+
+pub returns-in_err-x : goal.returns-in_err-x
+unfolding chain_from
+returns-in_err-x g c =
+    let e = one_more (λ n. chain_from (at c.args.self.now.fuel) c.args.self.now.agg c.args.precedence n c.loop-turn.x c.loop-turn.tokens) _ c.loop-turn._turn c.loop-turn-test.true c.loop-turn.invariant in
+    first_of (search rules, grind (arith, common_steps))
+
+pub loop-turn-preserved : goal.loop-turn-preserved
+unfolding chain_from
+loop-turn-preserved g c =
+    let e = one_more (λ n. chain_from (at c.args.self.now.fuel) c.args.self.now.agg c.args.precedence n c.loop-turn.x c.loop-turn.tokens) _ c.loop-turn._turn c.loop-turn-test.true c.loop-turn.invariant in
+    first_of (search rules, grind (arith, common_steps))
+
+pub returns : goal.returns
+unfolding chain_from
+returns g c =
+    let e = no_more (λ n. chain_from (at c.args.self.now.fuel) c.args.self.now.agg c.args.precedence n c.loop-turn.x c.loop-turn.tokens) _ c.loop-turn._turn c.loop-turn-test.false c.loop-turn.invariant in
+    first_of (search rules, grind (arith, common_steps))

@@ -1,6 +1,0 @@
-use Rattle.std.proofs.Common.{◌≡◌, ◌-◌}
-use Rattle.n1ql_parse.specs.Parser.{at, wholes, wholes_from}
-use Rattle.n1ql_parse.proofs.grammar.Grammar.wholes.Given as goal
-
-abbrev pub invariant-loop-turn : goal.invariant-loop-turn
-invariant-loop-turn g l = wholes (at l.self.fuel) l.self.agg l.fn.tokens ≡ wholes_from (at l.self.fuel) l.self.agg (l._turn-end - l._turn) l.found l.tokens

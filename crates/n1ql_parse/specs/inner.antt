@@ -1,0 +1,6 @@
+-- Copies of the code for private clauses: what each rule of the parser reads. No public clause says them.
+pub mod Steps
+pub mod Parser
+pub mod Nests
+pub mod Statements
+pub mod Stops

@@ -1,0 +1,4 @@
+mod statements;
+mod tokens;
+mod trees;
+mod values;
