@@ -2,13 +2,14 @@
 use Rattle.std.proofs.Common.{◌≡◌, ◌≢◌, ℕ, ◌+◌, ◌<◌, ◌≤◌, List, ltb, length, set, refl, ap, sym, subst, ◌∙◌, inl, inr, arith}
 use Rattle.std.proofs.lemmas.Bool.{cases_lt, cond-true, cond-false, lt-ltb, le-ltb}
 use Rattle.std.proofs.lemmas.Grind.{same_number_lists}
-use Rattle.std.proofs.lemmas.List.{get_or_past, get_or-set_same, get_or-set_other}
+use Rattle.std.proofs.lemmas.List.{get_or-set_same, get_or-set_other}
 use Rattle.std.proofs.lemmas.List.FromFn.{get_or-map-range_with_len, length-map-range_with_len}
 use Rattle.std.proofs.Math.ListN.{length-set}
 use Rattle.std.proofs.Math.Nat.{min-eq_left, min-eq_right}
 use Rattle.std.specs.Prelude.{min}
 use Rattle.seq_vector.specs.Vectors.{entry, meet, IsCovered}
-use Rattle.dcp_stream.specs.Streams.{IsStream, lowered_to, lowered}
+use Rattle.dcp_stream.specs.Streams.{Stream, IsStream, lowered_to, lowered, rewound}
+use Rattle.dcp_stream.specs.Pieces.{IsMarked}
 
 pub fallen : (p q x : ℕ) → q < p → lowered_to p q x ≡ q
 fallen p q x h = cond-true (ltb q p) q x (lt-ltb q p h)
@@ -62,45 +63,48 @@ lowered_all at to before now done so all =
     (λ vb h. so.low vb (omega (arith, so.size)) ∙ sym (entry-lowered at to before vb (omega (arith, so.size))))
 
 -- a stream that goes back stays one
-pub stream_back : (at began ends to : List ℕ) → length at ≡ length to → IsStream at began ends
-    → ((vb : ℕ) → entry (meet at to) vb ≡ min (entry at vb) (entry to vb)) → length (meet at to) ≡ length at
-    → IsStream (meet at to) (lowered at to began) (lowered at to ends)
-stream_back at began ends to same s entries size = record {
-  began_size = length-lowered at to began ∙ (s.began_size ∙ sym size);
-  ends_size = length-lowered at to ends ∙ (s.ends_size ∙ sym size);
-  after_begin = λ vb h.
-      let within : vb < length began = omega (arith, length-lowered at to began) in
-      let there = entry-lowered at to began vb within in
-      let after = s.after_begin vb within in
-      elim (cases_lt (entry to vb) (entry at vb)) [
-        | inl falls ↦ omega (arith, there, fallen (entry at vb) (entry to vb) (entry began vb) falls, entries vb, min-eq_right {n = entry to vb} {m = entry at vb} (omega arith))
-        | inr stays ↦ omega (arith, there, stayed (entry at vb) (entry to vb) (entry began vb) stays, entries vb, min-eq_left {n = entry at vb} {m = entry to vb} stays)
-      ];
-  before_end = λ vb h.
-      let within : vb < length ends = omega (arith, size, s.ends_size) in
-      let there = entry-lowered at to ends vb within in
-      let before = s.before_end vb (omega (arith, size)) in
-      elim (cases_lt (entry to vb) (entry at vb)) [
-        | inl falls ↦ omega (arith, there, fallen (entry at vb) (entry to vb) (entry ends vb) falls, entries vb, min-eq_right {n = entry to vb} {m = entry at vb} (omega arith))
-        | inr stays ↦ omega (arith, there, stayed (entry at vb) (entry to vb) (entry ends vb) stays, entries vb, min-eq_left {n = entry at vb} {m = entry to vb} stays)
-      ];
-}
+module _ (to : List ℕ) (s : Stream) (meets : (vb : ℕ) → entry (meet s.at to) vb ≡ min (entry s.at vb) (entry to vb)) (met_size : length (meet s.at to) ≡ length s.at) where
+  -- where it falls back it stands at the vector's number, and else where it stood
+  fell : (vb : ℕ) → entry to vb < entry s.at vb → entry (meet s.at to) vb ≡ entry to vb
+  fell vb falls = meets vb ∙ min-eq_right {n = entry to vb} {m = entry s.at vb} (omega arith)
 
--- a number past the end is 0, which is at most any other
-below : (to high : List ℕ) (vb : ℕ) → IsCovered to high → entry to vb ≤ entry high vb
-below to high vb covered = elim (cases_lt vb (length to)) [
-  | inl within ↦ covered vb within
-  | inr past ↦ omega (arith, get_or_past to vb 0 past)
-]
+  kept : (vb : ℕ) → entry s.at vb ≤ entry to vb → entry (meet s.at to) vb ≡ entry s.at vb
+  kept vb stays = meets vb ∙ min-eq_left {n = entry s.at vb} {m = entry to vb} stays
 
--- what goes back to a vector stays within what covers both
-pub lowered_within : (at to ends high : List ℕ) → IsCovered to high → IsCovered ends high → IsCovered (lowered at to ends) high
-lowered_within at to ends high to_within ends_within vb h =
-    let within : vb < length ends = omega (arith, length-lowered at to ends) in
-    let there = entry-lowered at to ends vb within in
-    let low = below to high vb to_within in
-    let before = ends_within vb within in
-    elim (cases_lt (entry to vb) (entry at vb)) [
-      | inl falls ↦ omega (arith, there, fallen (entry at vb) (entry to vb) (entry ends vb) falls)
-      | inr stays ↦ omega (arith, there, stayed (entry at vb) (entry to vb) (entry ends vb) stays)
-    ]
+  pub stream_back : IsStream s → IsStream (rewound to s)
+  stream_back is = record {
+    size = length-lowered s.at to s.ends ∙ (is.size ∙ sym met_size);
+    before_end = λ vb h.
+        let within : vb < length s.ends = omega (arith, met_size, is.size) in
+        let there = entry-lowered s.at to s.ends vb within in
+        let before = is.before_end vb (omega (arith, met_size)) in
+        elim (cases_lt (entry to vb) (entry s.at vb)) [
+          | inl falls ↦ omega (arith, there, fallen (entry s.at vb) (entry to vb) (entry s.ends vb) falls, fell vb falls)
+          | inr stays ↦ omega (arith, there, stayed (entry s.at vb) (entry to vb) (entry s.ends vb) stays, kept vb stays)
+        ];
+  }
+
+  -- its markers end no later than before
+  pub ends_within : IsStream s → IsCovered (lowered s.at to s.ends) s.ends
+  ends_within is vb h =
+      let within : vb < length s.ends = omega (arith, length-lowered s.at to s.ends) in
+      let there = entry-lowered s.at to s.ends vb within in
+      let before = is.before_end vb (omega (arith, is.size)) in
+      elim (cases_lt (entry to vb) (entry s.at vb)) [
+        | inl falls ↦ omega (arith, there, fallen (entry s.at vb) (entry to vb) (entry s.ends vb) falls)
+        | inr stays ↦ omega (arith, there, stayed (entry s.at vb) (entry to vb) (entry s.ends vb) stays)
+      ]
+
+  pub marked_back : (began : List ℕ) → IsMarked s began → IsMarked (rewound to s) (lowered s.at to began)
+  marked_back began is = record {
+    stream = stream_back is.stream;
+    size = length-lowered s.at to began ∙ (is.size ∙ sym met_size);
+    after_begin = λ vb h.
+        let within : vb < length began = omega (arith, length-lowered s.at to began) in
+        let there = entry-lowered s.at to began vb within in
+        let after = is.after_begin vb within in
+        elim (cases_lt (entry to vb) (entry s.at vb)) [
+          | inl falls ↦ omega (arith, there, fallen (entry s.at vb) (entry to vb) (entry began vb) falls, fell vb falls)
+          | inr stays ↦ omega (arith, there, stayed (entry s.at vb) (entry to vb) (entry began vb) stays, kept vb stays)
+        ];
+  }

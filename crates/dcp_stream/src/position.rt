@@ -1,8 +1,8 @@
 ghost use Rattle.std.specs.Prelude.{◌≡◌, ℕ, ◌+◌, ◌^◌, ◌<◌, ◌≤◌, List, length, IfOk, IfSome, OnErr};
 ghost use Rattle.seq_vector.specs.Vectors.{entry, IsCovered, zeros};
 ghost use Rattle.vb_store.specs.Mutations.{high_of};
-ghost use Rattle.dcp_stream.specs.Pieces.{PieceStands};
-ghost use Rattle.dcp_stream.specs.Streams.{start_of, end_of, next_of, after_any, lowered, rewound};
+ghost use Rattle.dcp_stream.specs.Pieces.{PieceStands, IsMarked, marker_start, next_piece, after_any, back_to};
+ghost use Rattle.dcp_stream.specs.Streams.{unread, marker_end, lowered};
 
 use crate::piece::Piece;
 use n1ql_value::Memory;
@@ -25,13 +25,13 @@ pub struct Position {
 }
 
 impl Model for Position {
-    ghost use Rattle.dcp_stream.specs.Streams.{Stream, IsStream};
+    ghost use Rattle.dcp_stream.specs.Pieces.{Marked, IsMarked};
 
-    ghost Value = { Stream };
+    ghost Value = { Marked };
 
-    ghost view = { λ p. record { at = p.at; began = p.began; ends = p.ends } };
+    ghost view = { λ p. record { stream = record { at = p.at; ends = p.ends }; began = p.began } };
 
-    ghost invariant = { λ p. IsStream p.at p.began p.ends };
+    ghost invariant = { λ p. IsMarked (record { at = p.at; ends = p.ends }) p.began };
 }
 
 impl Position {
@@ -42,7 +42,7 @@ impl Position {
     /// `Memory` where memory ran out.
     pub fn new(alloc: Global, n: u32) -> Result<Position, Memory>
         requires { (0 < n) × (n ≤ 1024) }
-        ensures { IfOk result (λ p. p ≡ record { at = zeros n; began = zeros n; ends = zeros n }) }
+        ensures { IfOk result (λ p. p ≡ record { stream = unread n; began = zeros n }) }
     {
         Ok(Position {
             at: zero(alloc, n)?,
@@ -53,7 +53,8 @@ impl Position {
 
     /// How far the stream has come.
     pub fn at(&self) -> &Vector
-        ensures { result.now ≡ self.now.at }
+        ensures at { result.now ≡ self.now.stream.at }
+        ensures marked { IsMarked self.now.stream self.now.began }
     {
         &self.at
     }
@@ -67,12 +68,12 @@ impl Position {
     pub fn next(&mut self, store: &VbStore, vb: u32, most: u64) -> Result<Option<Piece>, Memory>
         requires vbucket { vb < store.now.vbuckets }
         requires some { 0 < most }
-        requires size { length self.old.at ≡ store.now.vbuckets }
-        requires reached { IsCovered self.old.ends (high_of store.now.vbuckets store.now.log) }
-        ensures piece { IfOk result (λ piece. piece ≡ next_of store.now.vbuckets store.now.log most vb self.old) }
+        requires size { length self.old.stream.at ≡ store.now.vbuckets }
+        requires reached { IsCovered self.old.stream.ends (high_of store.now.vbuckets store.now.log) }
+        ensures piece { IfOk result (λ piece. piece ≡ next_piece store.now.vbuckets store.now.log most vb self.old) }
         ensures stands { IfOk result (λ piece. IfSome piece (PieceStands store.now.vbuckets store.now.log)) }
         ensures moved { IfOk result (λ piece. self.new ≡ after_any piece self.old) }
-        ensures reached { IsCovered self.new.ends (high_of store.now.vbuckets store.now.log) }
+        ensures reached { IsCovered self.new.stream.ends (high_of store.now.vbuckets store.now.log) }
         ensures err { OnErr result (self.new ≡ self.old) }
     {
         high_counts();
@@ -100,12 +101,13 @@ impl Position {
 
     /// The first number of the marker that the next piece lies in.
     fn start(&self, vb: u32) -> u64
-        requires vbucket { vb < length self.now.at }
-        requires more { entry self.now.at vb + 1 < 2 ^ 64 }
-        ensures { result ≡ start_of vb self.now }
+        requires vbucket { vb < length self.now.stream.at }
+        requires more { entry self.now.stream.at vb + 1 < 2 ^ 64 }
+        ensures { result ≡ marker_start (entry self.now.stream.at vb) (entry self.now.stream.ends vb) (entry self.now.began vb) }
     {
-        if self.at.get(vb) == self.ends.get(vb) {
-            self.at.get(vb) + 1
+        let at = self.at.get(vb);
+        if at == self.ends.get(vb) {
+            at + 1
         } else {
             self.began.get(vb) + 1
         }
@@ -113,22 +115,19 @@ impl Position {
 
     /// The last number of the marker that the next piece lies in, where `high` is the newest number.
     fn end(&self, vb: u32, high: u64) -> u64
-        requires { vb < length self.now.at }
-        ensures { result ≡ end_of high vb self.now }
+        requires { vb < length self.now.stream.at }
+        ensures { result ≡ marker_end (entry self.now.stream.at vb) (entry self.now.stream.ends vb) high }
     {
-        if self.at.get(vb) == self.ends.get(vb) {
-            high
-        } else {
-            self.ends.get(vb)
-        }
+        let end = self.ends.get(vb);
+        if self.at.get(vb) == end { high } else { end }
     }
 
     /// Goes back to a vector, where the stream was ahead of it. What it falls back in begins with a marker of its own.
     pub fn rewind(&mut self, to: &Vector)
-        requires { length self.old.at ≡ length to.now }
-        ensures back { self.new ≡ rewound to.now self.old }
-        ensures size { length self.new.at ≡ length self.old.at }
-        ensures within { (high : List ℕ) → IsCovered to.now high → IsCovered self.old.ends high → IsCovered self.new.ends high }
+        requires { length self.old.stream.at ≡ length to.now }
+        ensures back { self.new ≡ back_to to.now self.old }
+        ensures size { length self.new.stream.at ≡ length self.old.stream.at }
+        ensures within { (high : List ℕ) → IsCovered self.old.stream.ends high → IsCovered self.new.stream.ends high }
     {
         meet_is_greatest();
         lower(&self.at, to, &mut self.began);

@@ -4,7 +4,7 @@ ghost use Rattle.vb_store.specs.Mutations.{high_of};
 
 use crate::{Piece, Position};
 use n1ql_value::{Memory, Text, Value};
-use seq_vector::{Vector, zero};
+use seq_vector::zero;
 use std::alloc::Global;
 use vb_store::VbStore;
 use vb_store::laws::high_counts;
@@ -22,8 +22,8 @@ fn three_of_d(alloc: Global) -> Result<VbStore, Memory>
 
 /// A stream of the store that stands at the beginning.
 fn begun(alloc: Global, store: &VbStore) -> Result<Position, Memory>
-    ensures size { IfOk result (λ p. length p.at ≡ store.now.vbuckets) }
-    ensures reached { IfOk result (λ p. IsCovered p.ends (high_of store.now.vbuckets store.now.log)) }
+    ensures size { IfOk result (λ p. length p.stream.at ≡ store.now.vbuckets) }
+    ensures reached { IfOk result (λ p. IsCovered p.stream.ends (high_of store.now.vbuckets store.now.log)) }
 {
     high_counts();
     Position::new(alloc, store.vbuckets())
@@ -31,9 +31,9 @@ fn begun(alloc: Global, store: &VbStore) -> Result<Position, Memory>
 
 /// One more mutation of `d`. The stream stays within what was accepted.
 fn put_d(alloc: Global, store: &mut VbStore, position: &Position) -> Result<(), Memory>
-    requires { IsCovered position.now.ends (high_of store.old.vbuckets store.old.log) }
+    requires { IsCovered position.now.stream.ends (high_of store.old.vbuckets store.old.log) }
     ensures same { store.new.vbuckets ≡ store.old.vbuckets }
-    ensures reached { IsCovered position.now.ends (high_of store.new.vbuckets store.new.log) }
+    ensures reached { IsCovered position.now.stream.ends (high_of store.new.vbuckets store.new.log) }
 {
     high_counts();
     store.append(Text::of(alloc, "d")?, Some(Value::Null))?;
@@ -43,10 +43,10 @@ fn put_d(alloc: Global, store: &mut VbStore, position: &Position) -> Result<(), 
 /// The next piece of the last vBucket, of at most two mutations.
 fn next_of_d(position: &mut Position, store: &VbStore) -> Result<Option<Piece>, Memory>
     requires vbucket { 3 < store.now.vbuckets }
-    requires size { length position.old.at ≡ store.now.vbuckets }
-    requires reached { IsCovered position.old.ends (high_of store.now.vbuckets store.now.log) }
-    ensures size { length position.new.at ≡ store.now.vbuckets }
-    ensures reached { IsCovered position.new.ends (high_of store.now.vbuckets store.now.log) }
+    requires size { length position.old.stream.at ≡ store.now.vbuckets }
+    requires reached { IsCovered position.old.stream.ends (high_of store.now.vbuckets store.now.log) }
+    ensures size { length position.new.stream.at ≡ store.now.vbuckets }
+    ensures reached { IsCovered position.new.stream.ends (high_of store.now.vbuckets store.now.log) }
 {
     position.next(store, 3, 2)
 }
@@ -62,41 +62,27 @@ fn next_bounds(
     store: &VbStore,
 ) -> Result<Option<(u64, u64, u64, u64)>, Memory>
     requires vbucket { 3 < store.now.vbuckets }
-    requires size { length position.old.at ≡ store.now.vbuckets }
-    requires reached { IsCovered position.old.ends (high_of store.now.vbuckets store.now.log) }
-    ensures size { length position.new.at ≡ store.now.vbuckets }
-    ensures reached { IsCovered position.new.ends (high_of store.now.vbuckets store.now.log) }
+    requires size { length position.old.stream.at ≡ store.now.vbuckets }
+    requires reached { IsCovered position.old.stream.ends (high_of store.now.vbuckets store.now.log) }
+    ensures size { length position.new.stream.at ≡ store.now.vbuckets }
+    ensures reached { IsCovered position.new.stream.ends (high_of store.now.vbuckets store.now.log) }
 {
     let piece = next_of_d(position, store)?;
     Ok(piece.as_ref().map(bounds_of))
 }
 
-/// Goes back to a vector that lies within what was accepted.
-fn back_to(position: &mut Position, to: &Vector, store: &VbStore)
-    requires within { IsCovered to.now (high_of store.now.vbuckets store.now.log) }
-    requires to_size { length to.now ≡ store.now.vbuckets }
-    requires size { length position.old.at ≡ store.now.vbuckets }
-    requires reached { IsCovered position.old.ends (high_of store.now.vbuckets store.now.log) }
-    ensures size { length position.new.at ≡ store.now.vbuckets }
-    ensures reached { IsCovered position.new.ends (high_of store.now.vbuckets store.now.log) }
-{
-    position.rewind(to);
-}
-
-/// Goes back to the first mutation of the last vBucket.
+/// Goes back to the first mutation of the last vBucket. In the others the vector is ahead of all that was accepted.
 fn back_to_first_d(alloc: Global, position: &mut Position, store: &VbStore) -> Result<(), Memory>
     requires vbuckets { store.now.vbuckets ≡ 4 }
-    requires size { length position.old.at ≡ store.now.vbuckets }
-    requires reached { IsCovered position.old.ends (high_of store.now.vbuckets store.now.log) }
-    ensures size { length position.new.at ≡ store.now.vbuckets }
-    ensures reached { IsCovered position.new.ends (high_of store.now.vbuckets store.now.log) }
+    requires size { length position.old.stream.at ≡ store.now.vbuckets }
+    requires reached { IsCovered position.old.stream.ends (high_of store.now.vbuckets store.now.log) }
+    ensures size { length position.new.stream.at ≡ store.now.vbuckets }
+    ensures reached { IsCovered position.new.stream.ends (high_of store.now.vbuckets store.now.log) }
 {
-    high_counts();
     let mut first = zero(alloc, 4)?;
+    first.set(0, 9);
     first.set(3, 1);
-    if store.high().covers(&first) {
-        back_to(position, &first, store);
-    }
+    position.rewind(&first);
     Ok(())
 }
 

@@ -1,5 +1,5 @@
 -- Maps from keys to lists: what is left without one key, and all lists together in an order.
-use Rattle.std.proofs.Common.{◌≡◌, Bool, true, false, cond, not, T, ◌&&◌, List, [], ◌∷◌, ◌++◌, refl, sym, ap, ◌∙◌, Some, None, Option, unwrap_or, map as map_list, filter}
+use Rattle.std.proofs.Common.{◌≡◌, Bool, true, false, cond, not, T, ◌&&◌, List, [], ◌∷◌, ◌++◌, refl, sym, ap, ◌∙◌, Some, None, Option, unwrap_or, map as map_list}
 use Rattle.std.specs.Cmp.{IsTotalOrder, tied_itself, eq_by_cmp_equiv, alike_right}
 use Rattle.std.specs.FinMap as map
 use Rattle.std.specs.FinMap.{IsAntisymmetric}
@@ -9,8 +9,10 @@ use Rattle.std.specs.Option.{option_map_or}
 use Rattle.std.specs.Ordering.{is_eq, is_lt, eq_by_cmp}
 use Rattle.std.specs.declared.cmp.Ordering.{Ordering}
 use Rattle.std.specs.declared.cmp.Ordering.TheVariants.{Less, Equal, Greater}
-use Rattle.n1ql_value.specs.SortedLists.{sort_of, with_all}
-use Rattle.n1ql_value.proofs.SortedListLaws.{sort_of-append, with_all-comm, equal_of}
+use Rattle.sorted_lists.specs.SortedLists.{sort_of, with_all}
+use Rattle.index_state.specs.inner.Held.{is_empty, full}
+use Rattle.sorted_lists.proofs.Exchange.{sort_of-append, with_all-comm}
+use Rattle.sorted_lists.proofs.Orderings.{equal_of}
 
 first : (a b : Bool) → T (a && b) → T a
 first true b p = tt
@@ -72,12 +74,8 @@ both : (a b : Bool) → T a → T b → T (a && b)
 both true b p q = q
 both false b p q = absurd p
 
-abbrev is_empty : {X : Type 0} → List X → Bool
-is_empty [] = true
-is_empty (x ∷ xs) = false
-
 -- a list, unless it is empty
-abbrev if_any : {X : Type 0} → List X → Option (List X)
+abbrev pub if_any : {X : Type 0} → List X → Option (List X)
 if_any [] = None
 if_any (x ∷ xs) = Some (x ∷ xs)
 
@@ -86,9 +84,6 @@ module _ {K Y : Type 0} {R : K → K → Ordering} (o : IsTotalOrder R) (same : 
   abbrev pub found : K → List (K × List Y) → List Y
   found q es = unwrap_or (find R q es) []
 
-  abbrev full : List (K × List Y) → List (K × List Y)
-  full es = filter (λ e. not (is_empty e.1)) es
-
   abbrev pub pieces : List (K × List Y) → List Y
   pieces es = flat_map (λ e. e.1) es
 
@@ -96,7 +91,7 @@ module _ {K Y : Type 0} {R : K → K → Ordering} (o : IsTotalOrder R) (same : 
   pieces-full_at k [] es rest = rest
   pieces-full_at k (y ∷ ys) es rest = ap (λ l. (y ∷ ys) ++ l) rest
 
-  pieces-full : (es : List (K × List Y)) → pieces (full es) ≡ pieces es
+  pub pieces-full : (es : List (K × List Y)) → pieces (full es) ≡ pieces es
   pieces-full [] = refl
   pieces-full (e ∷ es) = pieces-full_at e.0 e.1 es (pieces-full es)
 
@@ -106,7 +101,7 @@ module _ {K Y : Type 0} {R : K → K → Ordering} (o : IsTotalOrder R) (same : 
       let rest = below_full x es (second _ _ h) in
       elim (is_empty e.1) as (λ b. T (below_all R x (cond (not b) (e ∷ full es) (full es)))) [ true ↦ rest | false ↦ both _ _ (first _ _ h) rest ]
 
-  is_sorted-full : (es : List (K × List Y)) → T (is_sorted R es) → T (is_sorted R (full es))
+  pub is_sorted-full : (es : List (K × List Y)) → T (is_sorted R es) → T (is_sorted R (full es))
   is_sorted-full [] h = tt
   is_sorted-full (e ∷ es) h =
       let rest = is_sorted-full es (second _ _ h) in
@@ -125,7 +120,7 @@ module _ {K Y : Type 0} {R : K → K → Ordering} (o : IsTotalOrder R) (same : 
   find-full_at q k [] es false t h rest = rw t rest
   find-full_at q k (y ∷ ys) es false t h rest = rw t rest
 
-  find-full : (q : K) (es : List (K × List Y)) → T (is_sorted R es) → find R q (full es) ≡ if_any (found q es)
+  pub find-full : (q : K) (es : List (K × List Y)) → T (is_sorted R es) → find R q (full es) ≡ if_any (found q es)
   find-full q [] h = refl
   find-full q (e ∷ es) h = find-full_at q e.0 e.1 es (eq_by_cmp R q e.0) refl (first _ _ h) (find-full q es (second _ _ h))
 

@@ -15,13 +15,15 @@ use Rattle.std.specs.declared.cmp.Ordering.{Ordering}
 use Rattle.n1ql_value.specs.declared.row.Row.{Row}
 use Rattle.n1ql_value.specs.declared.value.Value.{Value}
 use Rattle.n1ql_value.specs.Collation.{row_cmp}
-use Rattle.n1ql_value.specs.RowLaws.{row_cmp-total, row_cmp-exact}
-use Rattle.n1ql_value.specs.SortedLists.{sort_of, with_all, without_all}
-use Rattle.n1ql_value.proofs.SortedListLaws.{without_all-with_all, equal_of}
-use Rattle.index_state.specs.RowsById.{RowsById, rows_at, with_rows, all_rows, held_by}
+use Rattle.n1ql_value.proofs.RowLaws.{row_cmp-total, row_cmp-exact}
+use Rattle.sorted_lists.specs.SortedLists.{sort_of, with_all, without_all}
+use Rattle.sorted_lists.proofs.Exchange.{without_all-with_all}
+use Rattle.sorted_lists.proofs.Orderings.{equal_of}
+use Rattle.index_state.specs.RowsById.{RowsById, rows_at, with_rows, all_rows}
+use Rattle.index_state.specs.inner.Held.{held_by, filled, full}
 use Rattle.n1ql_value.specs.Documents.{Documents, index_by}
 use Rattle.index_state.specs.Index.{keys_at, HoldsKeys}
-use Rattle.index_state.proofs.EntryLemmas.{pieces, remove-insert, get_same-insert, same_pieces, sort_of-entries, mapped, is_sorted-mapped, find-mapped, pieces-mapped}
+use Rattle.index_state.proofs.EntryLemmas.{pieces, remove-insert, get_same-insert, same_pieces, sort_of-entries, mapped, is_sorted-mapped, find-mapped, pieces-mapped, if_any, pieces-full, is_sorted-full, find-full}
 
 bytes_cmp : List ℕ → List ℕ → Ordering
 bytes_cmp = slice_cmp nat_cmp
@@ -139,45 +141,22 @@ rows_at-found m id rows e = ap (λ v. unwrap_or v []) (get-held_by m id ∙ sym 
 pub rows_at-none : (m : BTreeMap (List ℕ) (List Row)) (id : List ℕ) → None ≡ tree.get (slice_cmp nat_cmp) m id → rows_at (held_by m) id ≡ []
 rows_at-none m id e = ap (λ v. unwrap_or v []) (get-held_by m id ∙ sym e)
 
--- to drop an id that isn't there changes nothing
-absent_unchanged : (m : BTreeMap (List ℕ) (List Row)) (id : List ℕ) → tree.get (slice_cmp nat_cmp) m id ≡ None → map.remove (held_by m) id ≡ held_by m
-absent_unchanged m id none =
-    map.same_map nat_list_cmp_total bytes_exact _ _ (λ q. map.get-remove nat_list_cmp_total (held_by m) id q
-    ∙ elim (eq_by_cmp (slice_cmp nat_cmp) q id) as (λ b. eq_by_cmp (slice_cmp nat_cmp) q id ≡ b → cond b None (map.get (held_by m) q) ≡ map.get (held_by m) q) [
-      | true ↦ λ t. sym (ap (map.get (held_by m)) (bytes_exact q id (equal_of _ t)) ∙ get-held_by m id ∙ none)
-      | false ↦ λ t. refl
-    ] refl)
-
--- what was inserted at an absent id and removed again
-pub undone : (before with_id after : BTreeMap (List ℕ) (List Row)) (id : List ℕ) (rows : List Row) → tree.get (slice_cmp nat_cmp) before id ≡ None
-    → held_by with_id ≡ map.insert (held_by before) id rows → held_by after ≡ map.remove (held_by with_id) id → held_by after ≡ held_by before
-undone before with_id after id rows none e f =
-    f ∙ ap (λ held. map.remove held id) e ∙ remove-insert nat_list_cmp_total bytes_exact (held_by before) id rows ∙ absent_unchanged before id none
-
--- the rows of all ids, once the rows of an absent id came
-pub added : (before with_id : BTreeMap (List ℕ) (List Row)) (id : List ℕ) (rows all new : List Row) → tree.get (slice_cmp nat_cmp) before id ≡ None → all ≡ all_rows (held_by before)
-    → held_by with_id ≡ map.insert (held_by before) id rows → new ≡ with_all row_cmp (rows_at (held_by with_id) id) all → new ≡ all_rows (held_by with_id)
-added before with_id id rows all new none both e f =
-    f ∙ ap (λ held. with_all row_cmp (rows_at held id) all) e
-    ∙ ap (λ more. with_all row_cmp more all) (rows_at-insert (held_by before) id rows)
-    ∙ ap (with_all row_cmp rows) (both ∙ ap all_rows (sym (absent_unchanged before id none)))
-    ∙ sym (all_rows-insert (held_by before) id rows)
-    ∙ sym (ap all_rows e)
-
 -- the rows of all ids, once those of an id were replaced
-pub exchanged : (before after : BTreeMap (List ℕ) (List Row)) (id : List ℕ) (rows all new : List Row) → all ≡ all_rows (held_by before)
-    → new ≡ with_all row_cmp rows (without_all row_cmp (rows_at (held_by before) id) all) → held_by after ≡ map.insert (held_by before) id rows → new ≡ all_rows (held_by after)
-exchanged before after id rows all new both e f =
-    e ∙ ap (λ a. with_all row_cmp rows (without_all row_cmp (rows_at (held_by before) id) a)) both ∙ replaced (held_by before) id rows ∙ sym (ap all_rows f)
+pub exchanged : (before after : BTreeMap (List ℕ) (List Row)) (id : List ℕ) (old rows all new : List Row) → all ≡ all_rows (held_by before) → Some old ≡ tree.get (slice_cmp nat_cmp) before id
+    → new ≡ with_all row_cmp rows (without_all row_cmp old all) → held_by after ≡ map.insert (held_by before) id rows → new ≡ all_rows (held_by after)
+exchanged before after id old rows all new both at e f =
+    e ∙ ap (λ o. with_all row_cmp rows (without_all row_cmp o all)) (sym (rows_at-found before id old at))
+    ∙ ap (λ a. with_all row_cmp rows (without_all row_cmp (rows_at (held_by before) id) a)) both ∙ replaced (held_by before) id rows ∙ sym (ap all_rows f)
 
 -- and once an id was dropped
-pub taken : (before after : BTreeMap (List ℕ) (List Row)) (id : List ℕ) (none all new : List Row) → none ≡ [] → all ≡ all_rows (held_by before)
-    → new ≡ with_all row_cmp none (without_all row_cmp (rows_at (held_by before) id) all) → held_by after ≡ map.remove (held_by before) id → new ≡ all_rows (held_by after)
-taken before after id none all new empty both e f =
-    e ∙ ap (λ more. with_all row_cmp more (without_all row_cmp (rows_at (held_by before) id) all)) empty
+pub taken : (before after : BTreeMap (List ℕ) (List Row)) (id : List ℕ) (old none all new : List Row) → none ≡ [] → all ≡ all_rows (held_by before) → Some old ≡ tree.get (slice_cmp nat_cmp) before id
+    → new ≡ with_all row_cmp none (without_all row_cmp old all) → held_by after ≡ map.remove (held_by before) id → new ≡ all_rows (held_by after)
+taken before after id old none all new empty both at e f =
+    e ∙ ap (λ more. with_all row_cmp more (without_all row_cmp old all)) empty
+    ∙ ap (λ o. without_all row_cmp o all) (sym (rows_at-found before id old at))
     ∙ ap (without_all row_cmp (rows_at (held_by before) id)) both ∙ dropped (held_by before) id ∙ sym (ap all_rows f)
 
-nothing_of_length : {X : Type 0} (xs : List X) → length xs ≡ 0 → xs ≡ []
+pub nothing_of_length : {X : Type 0} (xs : List X) → length xs ≡ 0 → xs ≡ []
 nothing_of_length [] h = refl
 nothing_of_length (x ∷ xs) h = absurd (omega arith)
 
@@ -185,3 +164,66 @@ pub all_rows-empty : all_rows map.empty ≡ []
 all_rows-empty =
     ap (λ es. sort_of row_cmp (pieces nat_list_cmp_total bytes_exact es))
     (nothing_of_length (map.entries {X = List Row} {R = slice_cmp nat_cmp} map.empty) (sym (map.len-entries {X = List Row} {R = slice_cmp nat_cmp} map.empty) ∙ map.len-empty (slice_cmp nat_cmp) (List Row)))
+
+-- ---- maps without the ids that hold no rows
+
+pub get-filled : (held : RowsById) (q : List ℕ) → map.get (filled held) q ≡ if_any (rows_at held q)
+get-filled held q =
+    map.get-from_sorted (slice_cmp nat_cmp) (full (map.entries held)) q (is_sorted-full nat_list_cmp_total bytes_exact (map.entries held) (map.entries_sorted held))
+    ∙ find-full nat_list_cmp_total bytes_exact q (map.entries held) (map.entries_sorted held)
+    ∙ ap (λ v. if_any (unwrap_or v [])) (sym (map.get-entries held q))
+
+filled-same : (m n : RowsById) → ((q : List ℕ) → rows_at m q ≡ rows_at n q) → filled m ≡ filled n
+filled-same m n e = map.same_map nat_list_cmp_total bytes_exact _ _ (λ q. get-filled m q ∙ ap if_any (e q) ∙ sym (get-filled n q))
+
+pub all_rows-filled : (held : RowsById) → all_rows (filled held) ≡ all_rows held
+all_rows-filled held =
+    ap (λ es. sort_of row_cmp (pieces nat_list_cmp_total bytes_exact es))
+    (map.entries-from_sorted (slice_cmp nat_cmp) (full (map.entries held)) (is_sorted-full nat_list_cmp_total bytes_exact (map.entries held) (map.entries_sorted held)))
+    ∙ ap (sort_of row_cmp) (pieces-full nat_list_cmp_total bytes_exact (map.entries held))
+
+put_at : (held : RowsById) (id : List ℕ) (rows : List Row) (q : List ℕ) → rows_at (map.insert held id rows) q ≡ cond (eq_by_cmp (slice_cmp nat_cmp) q id) rows (rows_at held q)
+put_at held id rows q =
+    ap (λ v. unwrap_or v []) (map.get-insert nat_list_cmp_total held id rows q) ∙ same_value (λ v. unwrap_or v []) (eq_by_cmp (slice_cmp nat_cmp) q id) (Some rows) (map.get held q)
+
+pub filled-insert : (held : RowsById) (id : List ℕ) (rows : List Row) → filled (map.insert held id rows) ≡ with_rows (filled held) id rows
+filled-insert held id [] =
+    map.same_map nat_list_cmp_total bytes_exact _ _ (λ q.
+    get-filled (map.insert held id []) q ∙ ap if_any (put_at held id [] q) ∙ same_value if_any (eq_by_cmp (slice_cmp nat_cmp) q id) [] (rows_at held q)
+    ∙ ap (cond (eq_by_cmp (slice_cmp nat_cmp) q id) None) (sym (get-filled held q)) ∙ sym (map.get-remove nat_list_cmp_total (filled held) id q))
+filled-insert held id (row ∷ rows) =
+    map.same_map nat_list_cmp_total bytes_exact _ _ (λ q.
+    get-filled (map.insert held id (row ∷ rows)) q ∙ ap if_any (put_at held id (row ∷ rows) q) ∙ same_value if_any (eq_by_cmp (slice_cmp nat_cmp) q id) (row ∷ rows) (rows_at held q)
+    ∙ ap (cond (eq_by_cmp (slice_cmp nat_cmp) q id) (Some (row ∷ rows))) (sym (get-filled held q)) ∙ sym (map.get-insert nat_list_cmp_total (filled held) id (row ∷ rows) q))
+
+pub filled-remove : (held : RowsById) (id : List ℕ) → filled (map.remove held id) ≡ map.remove (filled held) id
+filled-remove held id =
+    map.same_map nat_list_cmp_total bytes_exact _ _ (λ q.
+    get-filled (map.remove held id) q ∙ ap if_any (rows_at-with_rows held id [] q) ∙ same_value if_any (eq_by_cmp (slice_cmp nat_cmp) q id) [] (rows_at held q)
+    ∙ ap (cond (eq_by_cmp (slice_cmp nat_cmp) q id) None) (sym (get-filled held q)) ∙ sym (map.get-remove nat_list_cmp_total (filled held) id q))
+
+-- where an id holds no rows
+nothing_at : (held : RowsById) (id : List ℕ) → rows_at held id ≡ [] → (q : List ℕ) → cond (eq_by_cmp (slice_cmp nat_cmp) q id) [] (rows_at held q) ≡ rows_at held q
+nothing_at held id none q =
+    elim (eq_by_cmp (slice_cmp nat_cmp) q id) as (λ b. eq_by_cmp (slice_cmp nat_cmp) q id ≡ b → cond b [] (rows_at held q) ≡ rows_at held q) [
+      | true ↦ λ t. sym (ap (rows_at held) (bytes_exact q id (equal_of _ t)) ∙ none)
+      | false ↦ λ t. refl
+    ] refl
+
+-- a place without rows comes
+pub entered : (before after : BTreeMap (List ℕ) (List Row)) (id : List ℕ) (none : List Row) → none ≡ [] → rows_at (held_by before) id ≡ [] → held_by after ≡ map.insert (held_by before) id none
+    → filled (held_by after) ≡ filled (held_by before)
+entered before after id none empty nothing e =
+    ap filled (e ∙ ap (map.insert (held_by before) id) empty) ∙ filled-same (map.insert (held_by before) id []) (held_by before) (λ q. put_at (held_by before) id [] q ∙ nothing_at (held_by before) id nothing q)
+
+-- a place without rows goes
+pub left : (before after : BTreeMap (List ℕ) (List Row)) (id : List ℕ) → rows_at (held_by before) id ≡ [] → held_by after ≡ map.remove (held_by before) id → filled (held_by after) ≡ filled (held_by before)
+left before after id nothing e =
+    ap filled e ∙ filled-same (map.remove (held_by before) id) (held_by before) (λ q. rows_at-with_rows (held_by before) id [] q ∙ nothing_at (held_by before) id nothing q)
+
+pub filled-empty : filled map.empty ≡ map.empty
+filled-empty = map.same_map nat_list_cmp_total bytes_exact _ _ (λ q. get-filled map.empty q ∙ ap (λ v. if_any (unwrap_or v [])) (map.get-empty (slice_cmp nat_cmp) q) ∙ sym (map.get-empty (slice_cmp nat_cmp) q))
+
+-- maps that are the same but for ids without rows have the same rows
+pub same_rows : (m n : RowsById) → filled m ≡ filled n → all_rows m ≡ all_rows n
+same_rows m n e = sym (all_rows-filled m) ∙ ap all_rows e ∙ all_rows-filled n

@@ -1,2 +1,3 @@
 pub mod RowsById
 pub mod Index
+pub mod inner

@@ -1,13 +1,13 @@
 -- The rows of each id.
 use Rattle.std.specs.Prelude.{ℕ, List, [], ◌∷◌, unwrap_or}
-use Rattle.std.specs.List.{flat_map}
+use Rattle.std.specs.List.{flat_map, fold}
 use Rattle.std.specs.Ordering.{nat_cmp}
 use Rattle.std.specs.Cmp.Lexicographic.{slice_cmp}
 use Rattle.std.specs.FinMap as map
-use Rattle.std.specs.BTreeMap.{BTreeMap}
 use Rattle.n1ql_value.specs.declared.row.Row.{Row}
 use Rattle.n1ql_value.specs.Collation.{row_cmp}
-use Rattle.n1ql_value.specs.SortedLists.{sort_of}
+use Rattle.sorted_lists.specs.SortedLists.{sort_of}
+use Rattle.index_state.specs.declared.change.Change.{Change}
 
 abbrev pub RowsById : Type 0
 RowsById = map.FinMap (slice_cmp nat_cmp) (List Row)
@@ -21,10 +21,10 @@ abbrev pub with_rows : RowsById → List ℕ → List Row → RowsById
 with_rows held id [] = map.remove held id
 with_rows held id (row ∷ rows) = map.insert held id (row ∷ rows)
 
+-- the map after these changes, one behind the other
+abbrev pub with_changes : List Change → RowsById → RowsById
+with_changes changes held = fold (λ rows c. with_rows rows c.id c.rows) held changes
+
 -- the rows of all ids, in order
 abbrev pub all_rows : RowsById → List Row
 all_rows held = sort_of row_cmp (flat_map (λ e. e.1) (map.entries held))
-
--- the rows of each id, as a tree map has them
-abbrev pub held_by : BTreeMap (List ℕ) (List Row) → RowsById
-held_by by_id = map.from_entries by_id.entries

@@ -2,13 +2,13 @@
 //! replaced without a look at any other document's.
 #![tactic(auto)]
 
+mod change;
 mod held;
-mod laws;
+pub mod laws;
+mod put;
 mod state;
 
-pub use laws::{
-    a_document_comes, a_document_goes, nothing_is_the_index_of_nothing, rows_are_the_index,
-};
+pub use change::Change;
 pub use state::IndexState;
 
 #[cfg(test)]

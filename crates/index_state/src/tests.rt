@@ -3,6 +3,13 @@ use n1ql_value::{Memory, Row, Rows, Span, Spans, Text, Vals, Value};
 use std::alloc::Global;
 use std::test::Fail;
 
+fn may_be_sent<T: Send>() {}
+
+#[test]
+fn a_state_may_go_to_another_thread(_rt: HostRuntime) {
+    may_be_sent::<IndexState>();
+}
+
 // A row with one key.
 fn row(alloc: Global, key: i64, id: &Text) -> Result<Row, Memory> {
     let mut keys = Vals::new(alloc);
@@ -59,5 +66,37 @@ fn several_rows_of_one_document(rt: HostRuntime) -> Result<(), Fail> {
     assert_eq!(rt; ids(alloc, &state)?.as_str(), "aba");
     state.put(&a, Rows::new(alloc))?;
     assert_eq!(rt; state.len(), 1);
+    Ok(())
+}
+
+// What several ids hold from now on.
+fn changes(alloc: Global, all: &[(&str, &[i64])]) -> Result<Vec<Change>, Memory> {
+    let mut changes = Vec::new(alloc);
+    for (id, keys) in all {
+        let id = Text::of(alloc, id)?;
+        let rows = rows(alloc, keys, &id)?;
+        changes.push(Change { id, rows })?;
+    }
+    Ok(changes)
+}
+
+// Of several changes of one id the last counts, and one without rows takes the id out.
+#[test]
+fn several_documents_at_once(rt: HostRuntime) -> Result<(), Fail> {
+    let alloc = rt.alloc();
+    let mut state = IndexState::new(alloc);
+    state.put_all(changes(alloc, &[("a", &[1, 5]), ("b", &[2]), ("c", &[3])])?)?;
+    assert_eq!(rt; ids(alloc, &state)?.as_str(), "abca");
+    state.put_all(changes(
+        alloc,
+        &[
+            ("a", &[]),
+            ("d", &[0]),
+            ("a", &[4]),
+            ("b", &[]),
+            ("d", &[9]),
+        ],
+    )?)?;
+    assert_eq!(rt; ids(alloc, &state)?.as_str(), "cad");
     Ok(())
 }

@@ -11,12 +11,15 @@ use Rattle.std.specs.declared.sync.Arc.{Arc}
 use Rattle.std.specs.declared.alloc.Global.{Global}
 use Rattle.n1ql_value.specs.declared.row.Row.{Row}
 use Rattle.n1ql_value.specs.Collation.{row_cmp}
-use Rattle.n1ql_value.specs.RowLaws.{row_cmp-total, row_cmp-exact}
-use Rattle.n1ql_value.specs.SortedLists.{insert_sorted, without_one, with_all, without_all}
-use Rattle.n1ql_value.proofs.SortedListLaws.{IsPartitionedBy-below, insert-place, remove-place, with_all-append, without_all-push, none_ties, none_ties_not_contained, without_one-absent, equal_of}
+use Rattle.n1ql_value.proofs.RowLaws.{row_cmp-total, row_cmp-exact}
+use Rattle.sorted_lists.specs.SortedLists.{insert_sorted, without_one, with_all, without_all}
+use Rattle.sorted_lists.proofs.Places.{IsPartitionedBy-below, insert-place, remove-place, none_ties, none_ties_not_contained}
+use Rattle.sorted_lists.proofs.Exchange.{with_all-append, without_all-push}
+use Rattle.sorted_lists.proofs.InOrder.{without_one-absent}
+use Rattle.sorted_lists.proofs.Orderings.{equal_of}
 use Rattle.n1ql_value.specs.declared.range.Range.{Range}
-use Rattle.index_tree.specs.Shared.{rows_in, IsPlaceOf}
-use Rattle.index_tree.specs.Range.{range_of}
+use Rattle.index_tree.specs.inner.Shared.{rows_in, IsLowerBound}
+use Rattle.index_tree.specs.Range.{rows_within}
 use Rattle.n1ql_value.specs.Ranges.{some_span_holds}
 
 module _ {X Y : Type 0} (f : X → Y) where
@@ -48,16 +51,16 @@ pub parted : (shared : List (Arc Row Global)) (row : Row) → IsSorted row_cmp (
 parted shared row s = IsPartitionedBy-from_map arc_value (λ held. is_lt (row_cmp held row)) shared (IsPartitionedBy-below row_cmp-total row (rows_in shared) s)
 
 pub is_place : (shared : List (Arc Row Global)) (row : Row) (i : ℕ) → i ≤ length shared
-    → IsPartitionPoint (λ held. is_lt (row_cmp (arc_value held) row) ≡ true) (λ held. is_lt (row_cmp (arc_value held) row) ≡ false) shared i → IsPlaceOf shared row i
+    → IsPartitionPoint (λ held. is_lt (row_cmp (arc_value held) row) ≡ true) (λ held. is_lt (row_cmp (arc_value held) row) ≡ false) shared i → IsLowerBound shared row i
 is_place shared row i h p = IsPartitionPoint-map arc_value (λ held. is_lt (row_cmp held row) ≡ true) (λ held. is_lt (row_cmp held row) ≡ false) shared i h p
 
-pub put_at_place : (shared : List (Arc Row Global)) (one : Arc Row Global) (i : ℕ) → i ≤ length shared → IsPlaceOf shared (arc_value one) i
+pub put_at_place : (shared : List (Arc Row Global)) (one : Arc Row Global) (i : ℕ) → i ≤ length shared → IsLowerBound shared (arc_value one) i
     → rows_in (insert shared i one) ≡ insert_sorted row_cmp (arc_value one) (rows_in shared)
 put_at_place shared one i h p =
     map-insert arc_value shared i one ∙ insert-place row_cmp-total (arc_value one) (rows_in shared) i (rw length-map h) p
 
 -- the row at the place ties
-pub took_at_place : (shared : List (Arc Row Global)) (row : Row) (i : ℕ) → i < length shared → IsPlaceOf shared row i → (one : Arc Row Global) → one ≡ get_or shared i one
+pub took_at_place : (shared : List (Arc Row Global)) (row : Row) (i : ℕ) → i < length shared → IsLowerBound shared row i → (one : Arc Row Global) → one ≡ get_or shared i one
     → is_eq (row_cmp (arc_value one) row) ≡ true → rows_in (remove shared i) ≡ without_one row_cmp row (rows_in shared)
 took_at_place shared row i h p one at tie =
     map-remove arc_value shared i
@@ -74,11 +77,11 @@ abbrev pub NoneTies : List (Arc Row Global) → Row → Type 0
 NoneTies shared row = AllWithin (λ held. is_eq (row_cmp row held) ≡ false) (rows_in shared) 0 (length (rows_in shared))
 
 -- there is no row at the place
-pub none_past_end : (shared : List (Arc Row Global)) (row : Row) (i : ℕ) → IsSorted row_cmp (rows_in shared) → IsPlaceOf shared row i → length shared ≤ i → NoneTies shared row
+pub none_past_end : (shared : List (Arc Row Global)) (row : Row) (i : ℕ) → IsSorted row_cmp (rows_in shared) → IsLowerBound shared row i → length shared ≤ i → NoneTies shared row
 none_past_end shared row i s p past = none_ties row_cmp-total row (rows_in shared) i s p (λ h d. absurd (omega (arith, length-map shared arc_value)))
 
 -- the row at the place doesn't tie
-pub none_at_place : (shared : List (Arc Row Global)) (row : Row) (i : ℕ) → IsSorted row_cmp (rows_in shared) → IsPlaceOf shared row i → i < length shared → (one : Arc Row Global) → one ≡ get_or shared i one
+pub none_at_place : (shared : List (Arc Row Global)) (row : Row) (i : ℕ) → IsSorted row_cmp (rows_in shared) → IsLowerBound shared row i → i < length shared → (one : Arc Row Global) → one ≡ get_or shared i one
     → is_eq (row_cmp (arc_value one) row) ≡ false → NoneTies shared row
 none_at_place shared row i s p h one at other =
     none_ties row_cmp-total row (rows_in shared) i s p
@@ -99,12 +102,13 @@ put_more left one all now new e h =
     ∙ ap (λ more. with_all row_cmp more (rows_in now)) (sym (map-append arc_value left (one ∷ [])) ∙ sym (ap rows_in e))
 
 -- the next of those that are to go went out
-pub take_more_out : (out : List Row) (i : ℕ) (one : Row) (first now new : List Row) → i < length out → one ≡ get_or out i one → now ≡ without_all row_cmp (take i out) first → new ≡ without_one row_cmp one now
-    → new ≡ without_all row_cmp (take (i + 1) out) first
-take_more_out out i one first now new h at before step =
-    step ∙ ap (without_one row_cmp one) before
-    ∙ sym (without_all-push row_cmp-total row_cmp-exact (take i out) one first)
-    ∙ ap (λ more. without_all row_cmp more first) (ap (λ (last : Row). take i out ++ last ∷ []) at ∙ sym (take_more out i one h))
+pub take_more_out : (out : List (Arc Row Global)) (i : ℕ) (one : Arc Row Global) (row : Row) (first now new : List Row) → i < length out → one ≡ get_or out i one → row ≡ arc_value one
+    → now ≡ without_all row_cmp (rows_in (take i out)) first → new ≡ without_one row_cmp row now → new ≡ without_all row_cmp (rows_in (take (i + 1) out)) first
+take_more_out out i one row first now new h at is before step =
+    let longer : take i out ++ one ∷ [] ≡ take (i + 1) out = ap (λ (last : Arc Row Global). take i out ++ last ∷ []) at ∙ sym (take_more out i one h) in
+    step ∙ ap (λ (r : Row). without_one row_cmp r now) is ∙ ap (without_one row_cmp (arc_value one)) before
+    ∙ sym (without_all-push row_cmp-total row_cmp-exact (rows_in (take i out)) (arc_value one) first)
+    ∙ ap (λ more. without_all row_cmp more first) (sym (map-append arc_value (take i out) (one ∷ [])) ∙ ap rows_in longer)
 
-pub IsSorted-range_of : (spans : List (List Range)) (rows : List Row) → IsSorted row_cmp rows → IsSorted row_cmp (range_of spans rows)
-IsSorted-range_of spans rows s = IsSortedBy-filter _ (ranks_by row_cmp-total (λ r. r)) (λ row. some_span_holds spans row.keys) rows s
+pub IsSorted-rows_within : (spans : List (List Range)) (rows : List Row) → IsSorted row_cmp rows → IsSorted row_cmp (rows_within spans rows)
+IsSorted-rows_within spans rows s = IsSortedBy-filter _ (ranks_by row_cmp-total (λ r. r)) (λ row. some_span_holds spans row.keys) rows s

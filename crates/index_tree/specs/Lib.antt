@@ -1,2 +1,3 @@
-pub mod Shared
 pub mod Range
+pub mod Trees
+pub mod inner

@@ -5,5 +5,5 @@ use Rattle.n1ql_value.specs.declared.row.Row.{Row}
 use Rattle.n1ql_value.specs.Ranges.{some_span_holds}
 
 -- the rows that some span holds, each as often as it stands, in the same order
-abbrev pub range_of : List (List Range) → List Row → List Row
-range_of spans rows = filter (λ row. some_span_holds spans row.keys) rows
+abbrev pub rows_within : List (List Range) → List Row → List Row
+rows_within spans rows = filter (λ row. some_span_holds spans row.keys) rows

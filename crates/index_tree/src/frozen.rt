@@ -2,8 +2,8 @@ ghost use Rattle.std.specs.Prelude.{◌≡◌, length, IfOk};
 ghost use Rattle.std.specs.List.Sorted.{IsSorted};
 ghost use Rattle.n1ql_value.specs.Collation.{row_cmp};
 ghost use Rattle.n1ql_value.specs.Ranges.{some_span_holds};
-ghost use Rattle.index_tree.specs.Shared.{rows_in};
-ghost use Rattle.index_tree.specs.Range.{range_of};
+ghost use Rattle.index_tree.specs.inner.Shared.{rows_in};
+ghost use Rattle.index_tree.specs.Range.{rows_within};
 
 use n1ql_value::{Memory, Row, Rows, Span, Spans};
 use std::alloc::Global;
@@ -29,7 +29,7 @@ impl Model for Frozen {
 
     ghost use Rattle.std.specs.List.Sorted.{IsSorted};
     ghost use Rattle.n1ql_value.specs.Collation.{row_cmp};
-    ghost use Rattle.index_tree.specs.Shared.{rows_in};
+    ghost use Rattle.index_tree.specs.inner.Shared.{rows_in};
 
     ghost view = { λ f. rows_in f.rows.items };
 
@@ -53,8 +53,12 @@ impl Frozen {
     }
 
     /// The rows that some span holds, each as often as it stands, in order.
+    ///
+    /// # Errors
+    ///
+    /// `Memory` where memory ran out.
     pub fn range(&self, alloc: Global, spans: &Spans) -> Result<Rows, Memory>
-        ensures held { IfOk result (λ rows. rows ≡ range_of spans.now self.now) }
+        ensures held { IfOk result (λ rows. rows ≡ rows_within spans.now self.now) }
         ensures sorted { IfOk result (λ rows. IsSorted row_cmp rows) }
     {
         rows_held(alloc, self.rows.as_slice(), spans.as_slice())
@@ -63,7 +67,7 @@ impl Frozen {
 
 // Copies of the rows that some span holds.
 fn rows_held(alloc: Global, rows: &[Arc<Row>], spans: &[Span]) -> Result<Rows, Memory>
-    ensures { IfOk result (λ held. held ≡ range_of spans.now (rows_in rows.now)) }
+    ensures { IfOk result (λ held. held ≡ rows_within spans.now (rows_in rows.now)) }
 {
     let mut held = Rows::new(alloc);
     for row in rows {

@@ -7,6 +7,7 @@ mod shared;
 mod tree;
 
 pub use frozen::Frozen;
+pub use shared::SharedRows;
 pub use tree::Tree;
 
 #[cfg(test)]

@@ -3,17 +3,17 @@ ghost use Rattle.std.specs.Prelude.{◌≡◌, ◌<◌, ◌≤◌, ◌+◌, ◌�
 ghost use Rattle.std.specs.Bool.{OnFalse};
 ghost use Rattle.std.specs.List.Sorted.{IsSorted};
 ghost use Rattle.n1ql_value.specs.Collation.{row_cmp};
-ghost use Rattle.n1ql_value.specs.SortedLists.{insert_sorted, without_one};
-ghost use Rattle.index_tree.specs.Shared.{rows_in, IsPlaceOf};
+ghost use Rattle.sorted_lists.specs.SortedLists.{insert_sorted, without_one};
+ghost use Rattle.index_tree.specs.inner.Shared.{rows_in, IsLowerBound};
 
 use n1ql_value::{Memory, Row, collate_rows};
 use std::sync::Arc;
 
 // How many rows are below this one.
-fn place_of(rows: &[Arc<Row>], row: &Row) -> usize
+fn lower_bound(rows: &[Arc<Row>], row: &Row) -> usize
     requires { IsSorted row_cmp (rows_in rows.now) }
     ensures bound { result ≤ length rows.now }
-    ensures point { IsPlaceOf rows.now row.now result }
+    ensures point { IsLowerBound rows.now row.now result }
 {
     rows.partition_point(|held| collate_rows(held, row).is_lt())
 }
@@ -28,7 +28,7 @@ pub fn put_in(rows: &mut Vec<Arc<Row>>, row: Arc<Row>) -> Result<(), Memory>
     ensures capacity { vec_capacity rows.old ≤ vec_capacity rows.new }
     ensures len { OnOk result (vec_len rows.new ≡ vec_len rows.old + 1) }
 {
-    let at = place_of(rows, &row);
+    let at = lower_bound(rows, &row);
     rows.insert(at, row)?;
     Ok(())
 }
@@ -43,7 +43,7 @@ pub fn take_out(rows: &mut Vec<Arc<Row>>, row: &Row) -> bool
     ensures capacity { vec_capacity rows.new ≡ vec_capacity rows.old }
     ensures len { vec_len rows.new ≤ vec_len rows.old }
 {
-    let at = place_of(rows, row);
+    let at = lower_bound(rows, row);
     if at < rows.len() && collate_rows(&rows[at], row).is_eq() {
         rows.remove(at);
         return true;

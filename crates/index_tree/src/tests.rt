@@ -3,6 +3,13 @@ use n1ql_value::{Memory, Range, Row, Rows, Span, Spans, Text, Vals, Value};
 use std::alloc::Global;
 use std::test::Fail;
 
+fn may_be_sent<T: Send>() {}
+
+#[test]
+fn frozen_rows_may_go_to_another_thread(_rt: HostRuntime) {
+    may_be_sent::<Frozen>();
+}
+
 fn row(alloc: Global, key: i64, id: &str) -> Result<Row, Memory> {
     let mut keys = Vals::new(alloc);
     keys.push(Value::Int(key))?;

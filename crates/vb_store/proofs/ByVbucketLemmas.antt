@@ -6,7 +6,7 @@ use Rattle.std.specs.declared.vec.Vec.{Vec}
 use Rattle.std.proofs.Math.Seq.{map-set_same}
 use Rattle.std.proofs.lemmas.List.{map-set, get_or-map, map-append}
 use Rattle.vb_store.specs.declared.mutation.Mutation.{Mutation}
-use Rattle.vb_store.specs.Held.{lists_of}
+use Rattle.vb_store.specs.inner.Held.{lists_of}
 
 -- the mutations of one list
 abbrev pub list_of : {Y Z : Type 0} → Vec (Arc Mutation Y) Z → List Mutation

@@ -10,8 +10,8 @@ use Rattle.std.proofs.lemmas.Grind.{same_number_lists}
 use Rattle.std.specs.Option.{option_map}
 use Rattle.n1ql_value.specs.declared.value.Value.{Value}
 use Rattle.vb_store.specs.declared.mutation.Mutation.{Mutation}
-use Rattle.vb_store.specs.Mutations.{of_vbucket, IsNext, high_of, next_of}
-use Rattle.vb_store.specs.Held.{IsKept}
+use Rattle.vb_store.specs.Mutations.{of_vbucket, IsNext, high_of, next_mutation}
+use Rattle.vb_store.specs.inner.Held.{IsKept}
 use Rattle.vb_store.proofs.Numbering.{of_vbucket-append, numbered_push, high_of-push, length-high_of, entry-high_of}
 
 one_by : (b : Bool) (m : Mutation) → b ≡ true → cond b (m ∷ []) [] ≡ m ∷ []
@@ -77,8 +77,8 @@ pub mapped_cond : {A B : Type 0} (f : A → B) (b : Bool) (x : A) (rest : Option
 mapped_cond f true x rest = refl
 mapped_cond f false x rest = refl
 
-pub IsNext-next_of : (n : ℕ) (log : List Mutation) (id : List ℕ) (body : Option Value) (m : Mutation) → m ≡ next_of n log id body → IsNext n log m
-IsNext-next_of n log id body m is = subst (IsNext n log) (sym is) (record { bucket = refl; number = refl })
+pub IsNext-next_mutation : (n : ℕ) (log : List Mutation) (id : List ℕ) (body : Option Value) (m : Mutation) → m ≡ next_mutation n log id body → IsNext n log m
+IsNext-next_mutation n log id body m is = subst (IsNext n log) (sym is) (record { bucket = refl; number = refl })
 
-pub next_of-within : (n : ℕ) (log : List Mutation) (id : List ℕ) (body : Option Value) (m : Mutation) → m ≡ next_of n log id body → 0 < n → m.vb < n
-next_of-within n log id body m is some = omega (arith, ap (λ (x : Mutation). x.vb) is)
+pub next_mutation-within : (n : ℕ) (log : List Mutation) (id : List ℕ) (body : Option Value) (m : Mutation) → m ≡ next_mutation n log id body → 0 < n → m.vb < n
+next_mutation-within n log id body m is some = omega (arith, ap (λ (x : Mutation). x.vb) is)

@@ -3,3 +3,4 @@ pub mod Changes
 pub mod Slices
 pub mod Keeping
 pub mod ByVbucketLemmas
+pub mod Sending

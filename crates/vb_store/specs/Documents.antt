@@ -28,10 +28,6 @@ reaches v m = nat_le m.seqno (entry v m.vb)
 unfoldable pub documents_at : List Mutation → List ℕ → Documents
 documents_at log v = with_mutations map.empty (filter (reaches v) log)
 
--- the same as a list by id
-abbrev pub document_list : List Mutation → List ℕ → List (List ℕ × Value)
-document_list log v = map.entries (documents_at log v)
-
 -- the document that a mutation leaves under its id
 abbrev pub body_of : Option Mutation → Option Value
 body_of None = None

@@ -1,4 +1,4 @@
 pub mod Mutations
 pub mod Documents
 pub mod Accepted
-pub mod Held
+pub mod inner

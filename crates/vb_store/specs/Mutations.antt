@@ -41,7 +41,7 @@ abbrev pub current_of : List Mutation → List ℕ → Option Mutation
 current_of log id = fold (λ last m. if bytes_eq id m.id then Some m else last) None log
 
 -- the mutation of a change of the id that comes next
-abbrev pub next_of : ℕ → List Mutation → List ℕ → Option Value → Mutation
-next_of n log id body =
+abbrev pub next_mutation : ℕ → List Mutation → List ℕ → Option Value → Mutation
+next_mutation n log id body =
     let vb = vbucket_of id n in
     record { vb = vb; seqno = count_of vb log + 1; id = id; body = body }

@@ -1,7 +1,7 @@
 //! A list of mutations for each vBucket. Room in one is reserved before a mutation goes into it.
 ghost use Rattle.std.specs.Prelude.{◌≡◌, ◌+◌, ◌<◌, ◌++◌, ◌∷◌, [], replicate, vec_len, slice_set, slice_index_or, IfOk, OnOk};
 ghost use Rattle.std.specs.Arc.{arc_value};
-ghost use Rattle.vb_store.specs.Held.{lists_of, HasRoom};
+ghost use Rattle.vb_store.specs.inner.Held.{lists_of, HasRoom};
 
 use crate::mutation::Mutation;
 use n1ql_value::Memory;

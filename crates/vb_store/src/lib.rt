@@ -29,6 +29,14 @@ mod tests {
         Ok((mutation.vb, mutation.seqno))
     }
 
+    fn may_be_sent<T: Send>() {}
+
+    #[test]
+    fn mutations_may_go_to_another_thread(_rt: HostRuntime) {
+        may_be_sent::<Mutation>();
+        may_be_sent::<VbStore>();
+    }
+
     // The ids d, c, b and a go to the vBuckets 3, 2, 1 and 0 of four.
     #[test]
     fn mutations_are_numbered_by_vbucket(rt: HostRuntime) -> Result<(), Memory> {

@@ -7,6 +7,7 @@ pub struct Mutation {
     pub vb: u32,
     /// Its number in the vBucket, from 1.
     pub seqno: u64,
+    /// The id of the document.
     pub id: Text,
     /// The document from then on. `None` for a deletion.
     pub body: Option<Value>,

@@ -40,6 +40,10 @@ impl Muts {
     }
 
     /// The same mutations in a list of their own.
+    ///
+    /// # Errors
+    ///
+    /// `Memory` where memory ran out.
     pub fn of(alloc: Global, mutations: &[Arc<Mutation>]) -> Result<Muts, Memory>
         ensures { IfOk result (λ ms. ms ≡ map arc_value mutations.now) }
     {
@@ -57,7 +61,7 @@ impl Muts {
         self.items.len()
     }
 
-    /// The mutation at a place from 0, `None` past the last.
+    /// The mutation at an index from 0, `None` past the last.
     pub fn get(&self, at: usize) -> Option<&Arc<Mutation>>
         ensures { option_map arc_value (option_copied result) ≡ slice_get self.now at }
     {
@@ -72,6 +76,10 @@ impl Muts {
     }
 
     /// Adds a mutation at the end.
+    ///
+    /// # Errors
+    ///
+    /// `Memory` where memory ran out; the list is then as before.
     pub fn push(&mut self, mutation: Arc<Mutation>) -> Result<(), Memory>
         ensures ok { OnOk result (self.new ≡ self.old ++ arc_value mutation ∷ []) }
         ensures err { OnErr result (self.new ≡ self.old) }

@@ -2,7 +2,7 @@ ghost use Rattle.std.specs.Prelude.{◌≡◌, ℕ, ◌+◌, ◌<◌, ◌≤◌,
 ghost use Rattle.std.specs.Option.{option_map, option_copied};
 ghost use Rattle.std.specs.Arc.{arc_value};
 ghost use Rattle.seq_vector.specs.Vectors.{entry};
-ghost use Rattle.vb_store.specs.Mutations.{IsNumbered, next_of, of_vbucket, high_of, slice_of, current_of};
+ghost use Rattle.vb_store.specs.Mutations.{IsNumbered, next_mutation, of_vbucket, high_of, slice_of, current_of};
 
 use crate::by_vbucket::{no_lists, push_reserved, reserve_in};
 use crate::mutation::Mutation;
@@ -30,7 +30,7 @@ impl Model for VbStore {
     ghost use Rattle.std.specs.Arc.{arc_value};
     ghost use Rattle.std.specs.BTreeMap.{get_by_text};
     ghost use Rattle.vb_store.specs.Accepted.{Accepted};
-    ghost use Rattle.vb_store.specs.Held.{IsKept, lists_of};
+    ghost use Rattle.vb_store.specs.inner.Held.{IsKept, lists_of};
 
     ghost Value = { Accepted };
 
@@ -46,6 +46,10 @@ impl Model for VbStore {
 
 impl VbStore {
     /// A store of `n` vBuckets with no mutation.
+    ///
+    /// # Errors
+    ///
+    /// `Memory` where memory ran out.
     pub fn new(alloc: Global, n: u32) -> Result<VbStore, Memory>
         requires { (0 < n) × (n ≤ 1024) }
         ensures { IfOk result (λ s. (s.vbuckets ≡ n) × (s.log ≡ [])) }
@@ -77,7 +81,7 @@ impl VbStore {
         self.log.len()
     }
 
-    /// The mutation at a place from 0 in order of acceptance, `None` past the last.
+    /// The mutation at an index from 0 in order of acceptance, `None` past the last.
     pub fn get(&self, at: usize) -> Option<&Arc<Mutation>>
         ensures { option_map arc_value (option_copied result) ≡ slice_get self.now.log at }
     {
@@ -100,6 +104,10 @@ impl VbStore {
     }
 
     /// The mutations of a vBucket whose numbers are above `after` and at most `upto`.
+    ///
+    /// # Errors
+    ///
+    /// `Memory` where memory ran out.
     pub fn slice(&self, vb: u32, after: u64, upto: u64) -> Result<Muts, Memory>
         requires vbucket { vb < self.now.vbuckets }
         requires order { after ≤ upto }
@@ -111,9 +119,14 @@ impl VbStore {
     }
 
     /// Accepts a change of an id, with the next number of its vBucket.
+    ///
+    /// # Errors
+    ///
+    /// `Memory` where memory ran out; the store is then as before.
     pub fn append(&mut self, id: Text, body: Option<Value>) -> Result<Arc<Mutation>, Memory>
-        ensures next { IfOk result (λ m. arc_value m ≡ next_of self.old.vbuckets self.old.log id body) }
-        ensures added { OnOk result (self.new.log ≡ self.old.log ++ next_of self.old.vbuckets self.old.log id body ∷ []) }
+        ensures next { IfOk result (λ m. arc_value m ≡ next_mutation self.old.vbuckets self.old.log id body) }
+        ensures within { IfOk result (λ m. (arc_value m).vb < self.old.vbuckets) }
+        ensures added { OnOk result (self.new.log ≡ self.old.log ++ next_mutation self.old.vbuckets self.old.log id body ∷ []) }
         ensures same { self.new.vbuckets ≡ self.old.vbuckets }
         ensures numbered { IsNumbered self.new.vbuckets self.new.log }
         ensures err { OnErr result (self.new ≡ self.old) }
@@ -144,7 +157,7 @@ impl VbStore {
 
     // A vector holds fewer than 2^63 mutations, so the next number fits.
     fn next_mutation(&self, id: Text, body: Option<Value>) -> Mutation
-        ensures { result ≡ next_of self.now.vbuckets self.now.log id body }
+        ensures { result ≡ next_mutation self.now.vbuckets self.now.log id body }
     {
         let vb = vb_of(id.as_str(), self.vbuckets());
         let seqno = self.by_vbucket[vb as usize].len() as u64 + 1;

@@ -1,5 +1,5 @@
 use Rattle.std.proofs.Common.{◌≡◌, take}
-use Rattle.index_tree.specs.Shared.{rows_in}
+use Rattle.index_tree.specs.inner.Shared.{rows_in}
 use Rattle.index_tree.proofs.shared.share_again.Given as goal
 
 abbrev pub invariant-loop-row : goal.invariant-loop-row

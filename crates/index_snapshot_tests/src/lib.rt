@@ -1,0 +1,5 @@
+//! Tests of index_snapshot. They stand apart, so that a change of a test proves no other crate again.
+#![tactic(auto)]
+
+#[cfg(test)]
+mod tests;
