@@ -9,12 +9,14 @@ use Rattle.n1ql_value.specs.declared.datum.Datum.{Datum}
 use Rattle.n1ql_value.specs.declared.row.Row.{Row}
 use Rattle.n1ql_value.specs.declared.value.Value.{Value}
 use Rattle.n1ql_value.specs.Collation.{row_cmp}
-use Rattle.n1ql_value.specs.RowLaws.{row_cmp-total, row_cmp-exact}
-use Rattle.n1ql_value.specs.SortedLists.{insert_sorted, sort_of}
-use Rattle.n1ql_value.proofs.SortedListLaws.{IsSorted-sort_of, equal_of, filter-sort_of, length-sort_of}
+use Rattle.n1ql_value.proofs.RowLaws.{row_cmp-total, row_cmp-exact}
+use Rattle.sorted_lists.specs.SortedLists.{each_once, insert_sorted, sort_of}
+use Rattle.sorted_lists.proofs.InOrder.{IsSorted-sort_of, length-sort_of}
+use Rattle.sorted_lists.proofs.Orderings.{equal_of}
+use Rattle.sorted_lists.proofs.Filters.{filter-sort_of}
 use Rattle.n1ql_ast.specs.Evaluation.{on_document}
 use Rattle.index_def.specs.declared.definition.IndexDef.{IndexDef}
-use Rattle.index_def.specs.Keys.{each_once, has_leading, is_admitted, is_distinct, keys_of, once_if, rows_of_tuples, tuples_of}
+use Rattle.index_def.specs.Keys.{has_leading, is_admitted, is_distinct, keys_of, once_if, rows_of_tuples, tuples_of}
 
 all_first : {X : Type 0} (P : X → Type 0) (x : X) (xs : List X) → P x → All P xs → All P (x ∷ xs)
 all_first P x xs h all zero d l = h

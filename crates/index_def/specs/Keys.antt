@@ -10,7 +10,7 @@ use Rattle.n1ql_value.specs.declared.value.Value.{Value}
 use Rattle.n1ql_value.specs.Collation.{key_at, row_cmp}
 use Rattle.n1ql_value.specs.Datum.{datum_of, value_of as value_at}
 use Rattle.n1ql_value.specs.Kinds.{array_in, is_missing, is_true}
-use Rattle.n1ql_value.specs.SortedLists.{sort_of}
+use Rattle.sorted_lists.specs.SortedLists.{each_once, sort_of}
 use Rattle.n1ql_ast.specs.declared.key.Key.{Key}
 use Rattle.n1ql_ast.specs.declared.key.Key.TheVariants.{Plain, Each}
 use Rattle.n1ql_ast.specs.Evaluation.{Environment, on_document, passes, value_at_element, value_of}
@@ -47,11 +47,6 @@ is_admitted def env = list_all (λ e. is_true (value_of e env)) def.filter
 abbrev pub is_distinct : Key → Bool
 is_distinct (Plain e) = false
 is_distinct (Each distinct item var over when) = distinct
-
--- each element once: one that stands again further on is left out
-abbrev pub each_once : {A : Type 0} → (A → A → Ordering) → List A → List A
-each_once R [] = []
-each_once R (x ∷ xs) = (if list_any (λ y. is_eq (R x y)) xs then each_once R xs else x ∷ each_once R xs)
 
 abbrev pub once_if : Bool → List Row → List Row
 once_if distinct rows = (if distinct then each_once row_cmp rows else rows)

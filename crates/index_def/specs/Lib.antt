@@ -4,3 +4,4 @@ pub mod Reasons
 pub mod Forms
 pub mod Keys
 pub mod Index
+pub mod LiveIndexes

@@ -1,16 +1,15 @@
 ghost use Rattle.std.specs.Prelude.{◌≡◌, ◌↔◌, Some, Err, IfOk};
 ghost use Rattle.index_def.specs.Definitions as spec;
 ghost use Rattle.n1ql_ast.specs.FormedStatements.{IsFormedCreate};
-ghost use Rattle.index_def.specs.Forms.{IsFormed};
+ghost use Rattle.index_def.specs.Forms.{DefinesFormed, IsFormed};
 ghost use Rattle.index_def.specs.Reasons as reasons;
 
-use crate::copies::copied_keys;
 use crate::definition::IndexDef;
 use crate::fault::DefFault;
 use crate::reason::Reason;
 use crate::reasons::first_reason;
-use n1ql_ast::{Create, Expr};
-use n1ql_expr::{Conjuncts, conjuncts};
+use n1ql_ast::Create;
+use n1ql_expr::{conjuncts_in, copy_keys};
 use n1ql_value::Memory;
 use std::alloc::Global;
 
@@ -22,7 +21,8 @@ use std::alloc::Global;
 pub fn check(alloc: Global, c: &Create) -> Result<IndexDef, DefFault>
     ensures bad { (r : Reason) → (result ≡ Err (DefFault.Bad r)) ↔ (reasons.first_reason c.now ≡ Some r) }
     ensures def { IfOk result (λ def. def ≡ spec.definition_of c.now) }
-    ensures formed { IsFormedCreate c.now → IfOk result IsFormed }
+    ensures formed { DefinesFormed c.now → IfOk result IsFormed }
+    ensures statement { IsFormedCreate c.now → IfOk result IsFormed }
 {
     if let Some(reason) = first_reason(c) {
         return Err(DefFault::Bad(reason));
@@ -39,18 +39,8 @@ fn definition(alloc: Global, c: &Create) -> Result<IndexDef, Memory>
 {
     Ok(IndexDef {
         name: c.name.copy(alloc)?,
-        keys: copied_keys(alloc, &c.keys)?,
+        keys: copy_keys(alloc, &c.keys)?,
         filter: conjuncts_in(alloc, &c.filter)?,
         primary: c.primary,
     })
-}
-
-/// The operands of the ANDs of WHERE, none where it is absent.
-fn conjuncts_in(alloc: Global, filter: &Option<Expr>) -> Result<Conjuncts, Memory>
-    ensures { IfOk result (λ es. es ≡ spec.conjuncts_in filter.now) }
-{
-    match filter {
-        Some(e) => conjuncts(alloc, e),
-        None => Ok(Conjuncts::new(alloc)),
-    }
 }

@@ -1,5 +1,4 @@
 use crate::reason::Reason;
-use n1ql_value::Memory;
 
 /// Why no definition was made.
 #[derive(Clone, Copy, Debug, PartialEq, Eq)]
@@ -8,10 +7,4 @@ pub enum DefFault {
     Bad(Reason),
     /// Memory ran out.
     Memory,
-}
-
-impl From<Memory> for DefFault {
-    fn from(_memory: Memory) -> DefFault {
-        DefFault::Memory
-    }
 }

@@ -1,6 +1,6 @@
 //! Laws of the rows of a document: each is the contract of a function that does nothing.
 
-ghost use Rattle.std.specs.Prelude.{◌≡◌, ◌≤◌, ℕ, true, List, length, IsTrue};
+ghost use Rattle.std.specs.Prelude.{◌≡◌, ◌≤◌, ℕ, true, false, List, length, IsTrue};
 ghost use Rattle.std.specs.List.{All, filter, list_any};
 ghost use Rattle.std.specs.List.Sorted.{IsSorted};
 ghost use Rattle.std.specs.Ordering.{is_eq};
@@ -9,6 +9,7 @@ ghost use Rattle.n1ql_value.specs.declared.value.Value.{Value};
 ghost use Rattle.n1ql_value.specs.Collation.{row_cmp};
 ghost use Rattle.index_def.specs.declared.definition.IndexDef.{IndexDef};
 ghost use Rattle.index_def.specs.Keys.{has_leading, is_distinct, keys_of};
+ghost use Rattle.index_def.specs.Reasons.{is_array};
 
 /// The rows of a document carry its id.
 pub fn rows_carry_their_id()
@@ -23,6 +24,11 @@ pub fn rows_have_a_leading_key()
 /// They stand in order.
 pub fn rows_stand_in_order()
     ensures { (def : IndexDef) (id : List ℕ) (doc : Value) → IsSorted row_cmp (keys_of def id doc) }
+{}
+
+/// Without an array key a document has at most one row.
+pub fn a_document_has_at_most_one_row_without_an_array_key()
+    ensures { (def : IndexDef) (id : List ℕ) (doc : Value) → list_any is_array def.keys ≡ false → length (keys_of def id doc) ≤ 1 }
 {}
 
 /// With a DISTINCT key each of them stands once.

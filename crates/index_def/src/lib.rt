@@ -4,7 +4,6 @@
 #![tactic(auto)]
 
 mod checking;
-mod copies;
 mod definition;
 mod fault;
 pub mod laws;
@@ -17,6 +16,3 @@ pub use checking::check;
 pub use definition::IndexDef;
 pub use fault::DefFault;
 pub use reason::Reason;
-
-#[cfg(test)]
-mod tests;

@@ -1,4 +1,3 @@
-pub mod Sorting
 pub mod Once
 pub mod Growing
 pub mod Kept

@@ -2,9 +2,10 @@ ghost use Rattle.std.specs.Prelude.{◌≡◌, [], IfOk, if◌then◌else◌};
 ghost use Rattle.std.specs.List.{All, list_all, list_any};
 ghost use Rattle.n1ql_value.specs.Collation.{row_cmp};
 ghost use Rattle.n1ql_value.specs.Kinds.{is_true};
-ghost use Rattle.n1ql_value.specs.SortedLists.{sort_of};
-ghost use Rattle.n1ql_ast.specs.Evaluation.{on_document, value_of};
-ghost use Rattle.n1ql_ast.specs.FormedStatements.{IsEvaluable, IsFormedKey};
+ghost use Rattle.sorted_lists.specs.SortedLists.{sort_of};
+ghost use Rattle.n1ql_ast.specs.Evaluation.{value_of};
+ghost use Rattle.n1ql_ast.specs.FormedStatements.{IsFormedIn, IsFormedKey};
+ghost use Rattle.n1ql_expr.specs.Scopes.{environment_of};
 ghost use Rattle.index_def.specs.Forms.{IsFormed};
 ghost use Rattle.index_def.specs.Keys as spec;
 ghost use Rattle.key_eval.specs.Neighbours.{neighbours_once};
@@ -14,7 +15,7 @@ use crate::rows::rows_of_tuples;
 use crate::tuples::tuples_of;
 use index_def::IndexDef;
 use n1ql_ast::{Expr, Key};
-use n1ql_expr::{Env, eval};
+use n1ql_expr::{Env, Scope, eval};
 use n1ql_value::{Memory, Row, Rows, Text, Vals, Value};
 use std::alloc::Global;
 use vb_store::Mutation;
@@ -37,35 +38,46 @@ pub fn keys_of(alloc: Global, def: &IndexDef, m: &Mutation) -> Result<Rows, Memo
     }
 }
 
-/// The rows of a document. It is copied once, to be evaluated on.
+/// The rows of a document, which is read where it stands.
 fn keys_of_document(alloc: Global, def: &IndexDef, id: &Text, doc: &Value) -> Result<Rows, Memory>
     requires { IsFormed def.now }
     ensures { IfOk result (λ rows. rows ≡ spec.keys_of def.now id.now doc.now) }
 {
-    let mut env = document(alloc, id, doc)?;
-    if is_admitted(alloc, def.filter.as_slice(), &env)? {
-        rows_of_keys(alloc, def.keys.as_slice(), id, &mut env)
+    let keys = Vals::new(alloc);
+    let env = Env {
+        id: Some(&*id),
+        doc: &*doc,
+        keys: &keys,
+    };
+    rows_in(alloc, def, id, &Scope::on(&env))
+}
+
+/// The rows of the document that a scope stands on.
+fn rows_in<'a>(
+    alloc: Global,
+    def: &'a IndexDef,
+    id: &'a Text,
+    scope: &'a Scope<'a>,
+) -> Result<Rows, Memory>
+    requires { IsFormed def.now }
+    ensures { IfOk result (λ rows. rows ≡ (if spec.is_admitted def.now (environment_of scope.now)
+        then sort_of row_cmp (spec.once_if (list_any spec.is_distinct def.now.keys) (spec.rows_of_tuples (spec.tuples_of def.now.keys (environment_of scope.now)) id.now))
+        else [])) }
+{
+    if is_admitted(alloc, def.filter.as_slice(), &*scope)? {
+        rows_of_keys(alloc, def.keys.as_slice(), id, &*scope)
     } else {
         Ok(Rows::new(alloc))
     }
 }
 
-/// The environment of a document.
-fn document(alloc: Global, id: &Text, doc: &Value) -> Result<Env, Memory>
-    ensures { IfOk result (λ env. env ≡ on_document id.now doc.now []) }
-{
-    let id = id.copy(alloc)?;
-    let doc = doc.copy(alloc)?;
-    Env::new(alloc, id, doc, Vals::new(alloc))
-}
-
 /// Whether each conjunct is TRUE.
-fn is_admitted(alloc: Global, filter: &[Expr], env: &Env) -> Result<bool, Memory>
-    requires { All IsEvaluable filter.now }
-    ensures { IfOk result (λ b. b ≡ list_all (λ e. is_true (value_of e env.now)) filter.now) }
+fn is_admitted<'a>(alloc: Global, filter: &'a [Expr], scope: &'a Scope<'a>) -> Result<bool, Memory>
+    requires { All (IsFormedIn []) filter.now }
+    ensures { IfOk result (λ b. b ≡ list_all (λ e. is_true (value_of e (environment_of scope.now))) filter.now) }
 {
     for e in filter {
-        if !is_held(alloc, e, env)? {
+        if !is_held(alloc, e, scope)? {
             return Ok(false);
         }
     }
@@ -73,21 +85,26 @@ fn is_admitted(alloc: Global, filter: &[Expr], env: &Env) -> Result<bool, Memory
 }
 
 /// Whether the value of an expression is TRUE.
-fn is_held(alloc: Global, e: &Expr, env: &Env) -> Result<bool, Memory>
-    requires { IsEvaluable e.now }
-    ensures { IfOk result (λ b. b ≡ is_true (value_of e.now env.now)) }
+fn is_held<'a>(alloc: Global, e: &'a Expr, scope: &'a Scope<'a>) -> Result<bool, Memory>
+    requires { IsFormedIn [] e.now }
+    ensures { IfOk result (λ b. b ≡ is_true (value_of e.now (environment_of scope.now))) }
 {
-    let value = eval(alloc, e, env)?;
+    let value = eval(alloc, &*e, &*scope)?;
     Ok(matches!(value, Value::Bool(true)))
 }
 
 /// The rows of the tuples of the keys, in order, each once where a key is DISTINCT.
-fn rows_of_keys(alloc: Global, keys: &[Key], id: &Text, env: &mut Env) -> Result<Rows, Memory>
+fn rows_of_keys<'a>(
+    alloc: Global,
+    keys: &'a [Key],
+    id: &'a Text,
+    scope: &'a Scope<'a>,
+) -> Result<Rows, Memory>
     requires { All IsFormedKey keys.now }
     ensures { IfOk result (λ rows. rows ≡ sort_of row_cmp
-        (spec.once_if (list_any spec.is_distinct keys.now) (spec.rows_of_tuples (spec.tuples_of keys.now env.old) id.now))) }
+        (spec.once_if (list_any spec.is_distinct keys.now) (spec.rows_of_tuples (spec.tuples_of keys.now (environment_of scope.now)) id.now))) }
 {
-    let tuples = tuples_of(alloc, keys, env)?;
+    let tuples = tuples_of(alloc, keys, scope)?;
     let rows = in_order(rows_of_tuples(alloc, tuples, id)?)?;
     let rows = once_if(alloc, has_distinct(keys), rows)?;
     Ok(Rows::from_vec(rows))

@@ -11,9 +11,6 @@ mod rows;
 mod tuples;
 mod values;
 
-pub use key_version::{KeyVersion, KeyVersions};
+pub use key_version::{KeyVersion, KeyVersions, version_of};
 pub use keys::keys_of;
 pub use projected::Projected;
-
-#[cfg(test)]
-mod tests;

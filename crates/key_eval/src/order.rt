@@ -2,7 +2,7 @@
 
 ghost use Rattle.std.specs.Prelude.{◌≡◌, IfOk};
 ghost use Rattle.n1ql_value.specs.Collation.{row_cmp};
-ghost use Rattle.n1ql_value.specs.SortedLists.{sort_of};
+ghost use Rattle.sorted_lists.specs.SortedLists.{sort_of};
 ghost use Rattle.key_eval.specs.Neighbours.{ends_in, neighbours_once};
 
 use n1ql_value::{Memory, Row, collate_rows};

@@ -1,8 +1,7 @@
 ghost use Rattle.std.specs.Prelude.{◌≡◌, IfOk};
-ghost use Rattle.n1ql_value.specs.Kinds as kinds;
 ghost use Rattle.index_def.specs.Keys as spec;
 
-use n1ql_value::{Memory, Row, Text, Vals, Value};
+use n1ql_value::{Memory, Row, Text, Vals, Value, is_missing};
 use std::alloc::Global;
 
 /// A row for each tuple whose leading value isn't MISSING.
@@ -24,11 +23,4 @@ fn has_leading(tuple: &Vals) -> bool
     ensures { result ≡ spec.has_leading tuple.now }
 {
     !is_missing(tuple.get_or(0, &Value::Missing))
-}
-
-/// Whether a value is MISSING.
-fn is_missing(value: &Value) -> bool
-    ensures { result ≡ kinds.is_missing value.now }
-{
-    matches!(value, Value::Missing)
 }

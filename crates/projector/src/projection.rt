@@ -10,7 +10,7 @@ ghost use Rattle.projector.specs.Projections.{projected_of, StandInOrder};
 use crate::numbered_def::NumberedDef;
 use dcp_stream::Piece;
 use index_def::IndexDef;
-use key_eval::{KeyVersion, KeyVersions, Projected, keys_of};
+use key_eval::{KeyVersions, Projected, version_of};
 use n1ql_value::{ListOf, Memory};
 use std::alloc::Global;
 use std::sync::Arc;
@@ -62,18 +62,4 @@ fn versions_of(alloc: Global, def: &IndexDef, muts: &[Arc<Mutation>]) -> Result<
         versions.push(version_of(alloc, def, m)?)?;
     }
     Ok(versions)
-}
-
-/// What becomes of a mutation in an index.
-fn version_of(alloc: Global, def: &IndexDef, m: &Mutation) -> Result<KeyVersion, Memory>
-    requires { IsFormed def.now }
-    ensures { IfOk result (λ version. version ≡ version_of def.now m.now) }
-{
-    let rows = keys_of(alloc, def, m)?;
-    let id = m.id.copy(alloc)?;
-    Ok(KeyVersion {
-        seqno: m.seqno,
-        id,
-        rows,
-    })
 }

@@ -1,7 +1,7 @@
-ghost use Rattle.std.specs.Prelude.{IfOk};
+ghost use Rattle.std.specs.Prelude.{◌<◌, IfOk, [], length};
 ghost use Rattle.std.specs.Arc.{arc_value};
 ghost use Rattle.std.specs.List.{All};
-ghost use Rattle.n1ql_ast.specs.FormedStatements.{IsEvaluable, IsFormedKey};
+ghost use Rattle.n1ql_ast.specs.FormedStatements.{IsFormedIn, IsFormedKey};
 ghost use Rattle.index_def.specs.Forms.{IsFormed};
 
 use super::*;
@@ -17,7 +17,7 @@ use vb_store::{Mutation, Muts};
 
 /// A field of the document.
 fn field(alloc: Global, name: &str) -> Result<Expr, Memory>
-    ensures { IfOk result IsEvaluable }
+    ensures { IfOk result (IsFormedIn []) }
 {
     let name = Text::of(alloc, name)?;
     Ok(Expr::Field(Boxed::new(alloc, Expr::Doc)?, name))
@@ -25,7 +25,8 @@ fn field(alloc: Global, name: &str) -> Result<Expr, Memory>
 
 /// The one key that is a field.
 fn key(alloc: Global, name: &str) -> Result<Keys, Memory>
-    ensures { IfOk result (All IsFormedKey) }
+    ensures formed { IfOk result (All IsFormedKey) }
+    ensures some { IfOk result (λ ks. 0 < length ks) }
 {
     let mut keys = Keys::new(alloc);
     keys.push(Key::Plain(field(alloc, name)?))?;

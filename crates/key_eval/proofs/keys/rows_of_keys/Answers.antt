@@ -2,7 +2,7 @@ use Rattle.std.proofs.Common.{◌≡◌, Bool, cond, List, ap, ap₂, ◌∙◌}
 use Rattle.std.specs.List.{list_any}
 use Rattle.n1ql_value.specs.declared.row.Row.{Row}
 use Rattle.n1ql_value.specs.Collation.{row_cmp}
-use Rattle.n1ql_value.specs.SortedLists.{sort_of}
+use Rattle.sorted_lists.specs.SortedLists.{sort_of}
 use Rattle.index_def.specs.Keys.{is_distinct, once_if, rows_of_tuples}
 use Rattle.key_eval.specs.Neighbours.{neighbours_once}
 use Rattle.key_eval.proofs.Kept.{kept_in_order}

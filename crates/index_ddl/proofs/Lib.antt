@@ -1,0 +1,5 @@
+mod Lookups
+mod Changes
+mod Places
+mod Numbers
+mod Writes

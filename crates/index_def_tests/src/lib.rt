@@ -1,0 +1,5 @@
+//! Tests of definitions: what a statement defines, or why it defines nothing. They stand apart, so that the crate isn't proved twice.
+#![tactic(auto)]
+
+#[cfg(test)]
+mod tests;
