@@ -1,0 +1,4 @@
+pub mod Events
+pub mod Lending
+pub mod Passes
+pub mod Rule
