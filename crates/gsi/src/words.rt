@@ -1,26 +1,36 @@
-ghost use Rattle.std.specs.Prelude.{◌≡◌, ◌⊎◌, drop, map, string_bytes, IfOk, IfErr};
+ghost use Rattle.std.specs.Prelude.{◌≡◌, drop, map, string_bytes, IfOk};
 ghost use Rattle.std.specs.Vec.Iter.{into_iter_items};
+ghost use Rattle.gsi.specs.Words.{AreWords, is_out_of_memory};
 
 use gsi_main::Status;
 use n1ql_value::{Memory, Text};
 use std::alloc::Global;
 use std::env::Args;
-use std::rt::Env;
-use std::{env, io};
+use std::io;
 
-/// The arguments behind the program's name.
+/// The arguments behind the program's name, of what `env::args` gave.
 ///
 /// # Errors
 ///
-/// `Words` where one is not UTF-8, and `Memory`.
-pub fn words<R: Env + AllocGlobal>(rt: &R) -> Result<Vec<Text>, Status>
-    ensures { IfErr result (λ status. (status ≡ Status.Words) ⊎ (status ≡ Status.Memory)) }
+/// `Memory` where memory ran out, there or here; `Words` where `env::args` gave any other error, which it does where an argument is not
+/// UTF-8.
+pub fn words(alloc: Global, given: io::Result<Args>) -> Result<Vec<Text>, Status>
+    ensures { AreWords given result }
 {
-    match env::args(rt) {
-        Ok(arguments) => texts(rt.alloc(), arguments).map_err(|_| Status::Memory),
-        Err(error) if error.kind() == io::ErrorKind::OutOfMemory => Err(Status::Memory),
+    match given {
+        Ok(arguments) => match texts(alloc, arguments) {
+            Ok(words) => Ok(words),
+            Err(_) => Err(Status::Memory),
+        },
+        Err(error) if is_out_of_memory(&error) => Err(Status::Memory),
         Err(_) => Err(Status::Words),
     }
+}
+
+fn is_out_of_memory(error: &io::Error) -> bool
+    ensures { result ≡ is_out_of_memory error.now }
+{
+    matches!(error.kind(), io::ErrorKind::OutOfMemory)
 }
 
 /// The arguments behind the first, as texts.

@@ -4,9 +4,10 @@ use Rattle.std.specs.declared.alloc.Global.{Global}
 use Rattle.scan_history.specs.declared.kind.Kind.{Kind}
 use Rattle.scan_history.specs.declared.what.What.{What}
 use Rattle.scan_history.specs.declared.what.What.TheVariants.{Input}
-use Rattle.gsi_main.specs.declared.reading.TheConstants.{INPUT_LIMIT}
-use Rattle.script_text.specs.declared.reader.script_fault.ScriptFault.{ScriptFault}
-use Rattle.script_text.specs.declared.reader.script_fault.ScriptFault.TheVariants.{Line, TooLarge, Memory}
+use Rattle.scan_history.specs.declared.script.Script.{Script}
+use Rattle.scan_history.specs.Events.{Event}
+use Rattle.script_text.specs.declared.reader.script.script_fault.ScriptFault.{ScriptFault}
+use Rattle.script_text.specs.declared.reader.script.script_fault.ScriptFault.TheVariants.{Line, TooLarge, Memory}
 use Rattle.script_text.specs.Scripts.{Outcome, script, bad, too_large, script_of}
 use Rattle.script_text.specs.Reports.{report_of}
 use Rattle.gsi_sched.specs.Replay.{replay_of}
@@ -28,7 +29,15 @@ answer_of input = answer_to (script_of input)
 
 -- the answer to an input
 abbrev pub for_input : List ℕ → Answer
-for_input input = if nat_le (length input) INPUT_LIMIT then answer_of input else past_limit Input INPUT_LIMIT
+for_input input = if nat_le (length input) 4194304 then answer_of input else past_limit Input 4194304
+
+-- the input is a script, and the text is the report of the history that its replay gives
+pub record IsReportOf (input text : List ℕ) : Type 0 where
+  pub read : Script
+  pub is_read : script_of input ≡ script read
+  pub history : List Event
+  pub replayed : history ≡ replay_of read
+  pub told : text ≡ report_of read history
 
 -- the function gives the answer, or memory ran out; whoever reads the input sees that it is no longer than the limit
 abbrev pub Gives : Answer → Result (Vec ℕ Global) ScriptFault → Type 0

@@ -1,5 +1,5 @@
 -- A source in memory.
-use Rattle.std.specs.Prelude.{ℕ, ◌+◌, ◌-◌, ◌^◌, min, List, length}
+use Rattle.std.specs.Prelude.{ℕ, min, List, length}
 
 -- the bytes left, the most that a call gives, the numbers of the calls that are to fail, and what was counted
 pub record MemReads : Type 0 where
@@ -8,10 +8,6 @@ pub record MemReads : Type 0 where
   pub fails : List ℕ
   pub calls : ℕ
   pub faults : ℕ
-
--- a count of at most 64 bits after one more
-abbrev pub next_count : ℕ → ℕ
-next_count n = min (n + 1) (2 ^ 64 - 1)
 
 -- how many bytes a read into a buffer of this length gives
 abbrev pub given : MemReads → ℕ → ℕ

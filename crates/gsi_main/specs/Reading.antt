@@ -5,6 +5,7 @@ use Rattle.std.specs.Io.KnownBytes.{Consumes, IsAtEnd}
 -- these bytes were read, then the end of the input was found, and no read failed
 pub record ReadWhole (limit : ℕ) (left left' : Option (List ℕ)) (faults faults' : ℕ) (bytes : List ℕ) : Type 0 where
   pub fits : length bytes ≤ limit
+  pub consumed : Consumes left left' bytes
   pub input : IfSome left (λ all. all ≡ bytes)
   pub at_end : IsAtEnd left'
   pub kept : faults' ≡ faults

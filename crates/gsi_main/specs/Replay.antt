@@ -1,9 +1,10 @@
 -- What the top call `gsi_replay` does.
-use Rattle.std.specs.Prelude.{◌≡◌, ℕ, List, [], ◌∷◌, codes, take, ⊤, Option, Some, None}
-use Rattle.std.specs.Io.KnownBytes.{Appends, IsAtEnd}
+use Rattle.std.specs.Prelude.{◌≡◌, ℕ, ◌≤◌, List, [], ◌∷◌, codes, length, ⊤, Option}
+use Rattle.std.specs.Io.KnownBytes.{Appends, Consumes, IsAtEnd}
 use Rattle.gsi_main.specs.declared.status.Status.{Status}
 use Rattle.gsi_main.specs.declared.status.Status.TheVariants.{Done, Words, Script, ReadFault, WriteFault, Memory, TooLarge}
-use Rattle.gsi_main.specs.Answer.{Answer, report, bad_line, past_limit, for_input}
+use Rattle.gsi_main.specs.Answer.{Answer, IsReportOf, report, bad_line, past_limit}
+use Rattle.gsi_main.specs.Writing.{AppendsPrefix}
 
 -- the one word `replay`
 abbrev pub IsReplay : List (List ℕ) → Type 0
@@ -23,14 +24,22 @@ IsFor WriteFault answer = IsReport answer
 IsFor Memory answer = ⊤
 IsFor (TooLarge what limit) answer = answer ≡ past_limit what limit
 
--- a source that tells its bytes is at its end, those bytes are a script, and the report of its replay was appended
-abbrev pub Replayed : Option (List ℕ) → Option (List ℕ) → Option (List ℕ) → Option (List ℕ) → Type 0
-Replayed None left' held held' = ⊤
-Replayed (Some input) left' held held' =
-    (text : List ℕ) × (for_input input ≡ report text) × IsAtEnd left' × Appends held held' text
+-- some bytes within the limit were consumed to the end of the source, and the report of them was appended
+pub record Replayed (left left' held held' : Option (List ℕ)) : Type 0 where
+  pub input : List ℕ
+  pub fits : length input ≤ 4194304
+  pub consumed : Consumes left left' input
+  pub at_end : IsAtEnd left'
+  pub text : List ℕ
+  pub is_report : IsReportOf input text
+  pub appended : Appends held held' text
 
--- the bytes of a source that tells them are a script, and a front of the report of its replay was appended
-abbrev pub PartlyReplayed : Option (List ℕ) → Option (List ℕ) → Option (List ℕ) → Type 0
-PartlyReplayed None held held' = ⊤
-PartlyReplayed (Some input) held held' =
-    (text : List ℕ) × (for_input input ≡ report text) × ((n : ℕ) × Appends held held' (take n text))
+-- some bytes within the limit were consumed to the end of the source, and a prefix of the report of them was appended
+pub record PartlyReplayed (left left' held held' : Option (List ℕ)) : Type 0 where
+  pub input : List ℕ
+  pub fits : length input ≤ 4194304
+  pub consumed : Consumes left left' input
+  pub at_end : IsAtEnd left'
+  pub text : List ℕ
+  pub is_report : IsReportOf input text
+  pub appended : AppendsPrefix held held' text

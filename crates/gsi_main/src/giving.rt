@@ -1,6 +1,6 @@
 ghost use Rattle.std.specs.Prelude.{◌≡◌, ◌<◌, [], ◌++◌, drop, length, min, take};
 
-/// Copies a front of the bytes left into the front of the buffer, of at most `most` bytes, and gives its length.
+/// Copies a prefix of the bytes left, of at most `most` bytes, to the beginning of the buffer, and gives its length.
 pub(crate) fn give(left: &[u8], most: usize, buf: &mut [u8]) -> usize
     ensures count { result ≡ min (min most (length buf.old)) (length left.now) }
     ensures moved { left.now ≡ take result buf.new ++ drop result left.now }

@@ -1,8 +1,8 @@
 ghost use Rattle.std.specs.Prelude.{◌≡◌, ℕ, ◌<◌, ◌≤◌, ◌↔◌, List, Some, drop, length, vec_len, IsErr, IfOk, Contains};
 ghost use Rattle.std.specs.Io.{ReadsAtMost};
 ghost use Rattle.std.specs.Io.KnownBytes.{ReadConsumes};
-ghost use Rattle.gsi_main.specs.Faults.{HasCause};
-ghost use Rattle.gsi_main.specs.MemSource.{MemReads, next_count, given};
+ghost use Rattle.gsi_main.specs.Faults.{HasCause, next_count};
+ghost use Rattle.gsi_main.specs.MemSource.{MemReads, given};
 
 use crate::giving::give;
 use crate::source::Source;

@@ -27,16 +27,16 @@ pub fn gsi_replay<S: Source, K: Sink>(
         Replayed (S.left source.old) (S.left source.new) (K.held sink.old) (K.held sink.new) }
     ensures exact { IsReplay words.now → IfSome (S.left source.old) (λ input. IsFor result (for_input input)) }
     ensures words { (result ≡ Status.Words) ↔ ¬ IsReplay words.now }
-    ensures past_limit { result ≡ Status.TooLarge What.Input INPUT_LIMIT →
-        TookPast INPUT_LIMIT (S.left source.old) (S.left source.new) }
+    ensures past_limit { result ≡ Status.TooLarge What.Input 4194304 →
+        TookPast 4194304 (S.left source.old) (S.left source.new) }
     ensures read_fault { result ≡ Status.ReadFault → Rose (S.faults source.old) (S.faults source.new) }
     ensures read_grew { S.faults source.old < S.faults source.new → result ≡ Status.ReadFault }
     ensures write_fault { result ≡ Status.WriteFault → Rose (K.faults sink.old) (K.faults sink.new) }
     ensures write_grew { K.faults sink.old < K.faults sink.new → result ≡ Status.WriteFault }
 
-    // After a failed write a front of the report stands in the sink; after all but that and Done, nothing was written.
+    // After a failed write a prefix of the report stands in the sink; after all but that and Done, nothing was written.
     ensures part { result ≡ Status.WriteFault →
-        PartlyReplayed (S.left source.old) (K.held sink.old) (K.held sink.new) }
+        PartlyReplayed (S.left source.old) (S.left source.new) (K.held sink.old) (K.held sink.new) }
     ensures untouched { result ≡ Status.Words → source.new ≡ source.old }
     ensures unwritten { ¬ (result ≡ Status.Done) → ¬ (result ≡ Status.WriteFault) → sink.new ≡ sink.old }
 {

@@ -13,7 +13,7 @@ pub trait Source {
     /// How many reads have failed, up to 2^64 - 1.
     ghost faults: { Self → ℕ };
 
-    /// Reads the next bytes into the front of the buffer, and gives their number; 0 is the end of the input.
+    /// Reads the next bytes to the beginning of the buffer, and gives their number; 0 is the end of the input.
     ///
     /// # Errors
     ///

@@ -13,7 +13,7 @@ pub enum Status {
     Script { line: u64, kind: Kind },
     /// The source failed. Nothing was written.
     ReadFault,
-    /// The sink failed. A front of the report was written.
+    /// The sink failed. A prefix of the report was written.
     WriteFault,
     /// Memory ran out. Nothing was written.
     Memory,

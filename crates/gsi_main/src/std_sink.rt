@@ -1,51 +1,57 @@
-ghost use Rattle.std.specs.Prelude.{◌≡◌, ℕ, ◌<◌, List, Option, None, IfOk, length, take};
+ghost use Rattle.std.specs.Prelude.{◌≡◌, ℕ, ◌<◌, List, Option, IfOk};
 ghost use Rattle.std.specs.Io.{WritesAtMost};
-ghost use Rattle.std.specs.Io.KnownBytes.{Appends};
-ghost use Rattle.gsi_main.specs.Faults.{HasCause};
+ghost use Rattle.gsi_main.specs.Writing.{Writes};
 
 use crate::sink::Sink;
 use n1ql_value::Failed;
 use std::io::Write;
 
-/// A sink over a writer, as standard output, which is flushed after each write. It counts each error of the writer,
-/// and each write that takes nothing. It tells nothing, since a flush can fail after a write.
+/// A sink over a writer, as standard output, which is flushed after each write. It tells what its writer tells. It counts each error of the
+/// writer, and each write that takes nothing. A flush can fail after a write, so a prefix of the piece may stand in the writer after a failure.
 #[derive(Debug, Drop)]
 pub struct StdSink<W> {
-    /// Where the bytes go.
-    pub writer: W,
-    /// How many writes have failed, up to 2^64 - 1.
-    pub faults: u64,
+    writer: W,
+    faults: u64,
 }
 
 impl<W: Write> StdSink<W> {
     /// A sink over the writer.
     pub fn new(writer: W) -> StdSink<W>
-        ensures over { result.writer ≡ writer }
-        ensures faults { result.faults ≡ 0 }
+        ensures held { ⟦<StdSink<W> as Sink>⟧.held result ≡ W.contents writer }
+        ensures faults { ⟦<StdSink<W> as Sink>⟧.faults result ≡ 0 }
     {
         StdSink { writer, faults: 0 }
     }
 }
 
 impl<W: Write> Sink for StdSink<W> {
-    ghost held = { λ _. None };
+    ghost held = { λ s. W.contents s.writer };
 
     ghost faults = { λ s. s.faults };
 
-    fn write(&mut self, piece: &[u8]) -> Result<usize, Failed>
-        requires { 0 < length piece.now }
-        ensures within { WritesAtMost result piece.now }
-        ensures moves { IfOk result (λ n. 0 < n) }
-        ensures cause { HasCause self.old.faults self.new.faults result }
-        ensures sent { IfOk result (λ n.
-            Appends (W.contents self.old.writer) (W.contents self.new.writer) (take n piece.now)) }
-    {
-        if let Ok(count) = self.writer.write(piece) {
-            if count > 0 && self.writer.flush().is_ok() {
-                return Ok(count);
-            }
+    fn write(&mut self, piece: &[u8]) -> Result<usize, Failed> {
+        let result = write_through(&mut self.writer, piece);
+        if result.is_err() {
+            self.faults = self.faults.saturating_add(1);
         }
-        self.faults = self.faults.saturating_add(1);
-        Err(Failed)
+        result
     }
+}
+
+/// Writes a prefix of the piece, of at least one byte, and flushes the writer.
+fn write_through<W: Write>(writer: &mut W, piece: &[u8]) -> Result<usize, Failed>
+    ensures within { WritesAtMost result piece.now }
+    ensures moves { IfOk result (λ n. 0 < n) }
+    ensures bytes { Writes (W.contents writer.old) (W.contents writer.new) result piece.now }
+{
+    let Ok(count) = writer.write(piece) else {
+        return Err(Failed);
+    };
+    if count == 0 {
+        return Err(Failed);
+    }
+    if writer.flush().is_err() {
+        return Err(Failed);
+    }
+    Ok(count)
 }

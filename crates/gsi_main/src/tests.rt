@@ -241,40 +241,65 @@ fn wrong_words(rt: HostRuntime) -> Result<(), Fail> {
     Ok(())
 }
 
-/// A reader and writer that fails in one way.
-#[derive(Clone, Copy, Drop)]
-enum Broken {
-    ReadFails,
+/// How a reader or a writer fails.
+#[derive(Clone, Copy, PartialEq, Eq)]
+enum Fault {
+    Error,
     TakesNothing,
-    FlushFails,
+    Flush,
 }
 
-impl Read for Broken {
-    fn read(&mut self, _buf: &mut [u8]) -> io::Result<usize> {
-        Err(io::Error::from(io::ErrorKind::Other))
+/// A reader and a writer that fails once, and works from then on.
+#[derive(Drop)]
+struct FailsOnce {
+    fault: Fault,
+    failed: bool,
+}
+
+impl FailsOnce {
+    fn fails_by(&mut self, fault: Fault) -> bool {
+        let fails = self.fault == fault && !self.failed;
+        self.failed |= fails;
+        fails
     }
 }
 
-impl Write for Broken {
-    fn write(&mut self, buf: &[u8]) -> io::Result<usize> {
-        match self {
-            Broken::TakesNothing => Ok(0),
-            _ => Ok(buf.len()),
+impl Read for FailsOnce {
+    fn read(&mut self, _buf: &mut [u8]) -> io::Result<usize> {
+        if self.fails_by(Fault::Error) {
+            return Err(io::Error::from(io::ErrorKind::Other));
         }
+        Ok(0)
+    }
+}
+
+impl Write for FailsOnce {
+    fn write(&mut self, buf: &[u8]) -> io::Result<usize> {
+        if self.fails_by(Fault::Error) {
+            return Err(io::Error::from(io::ErrorKind::Other));
+        }
+        if self.fails_by(Fault::TakesNothing) {
+            return Ok(0);
+        }
+        Ok(buf.len())
     }
 
     fn flush(&mut self) -> io::Result<()> {
-        match self {
-            Broken::FlushFails => Err(io::Error::from(io::ErrorKind::Other)),
-            _ => Ok(()),
+        if self.fails_by(Fault::Flush) {
+            return Err(io::Error::from(io::ErrorKind::Other));
         }
+        Ok(())
     }
 }
 
+/// A fault is neither tried again nor passed over.
 #[test]
-fn over_what_fails(rt: HostRuntime) -> Result<(), Fail> {
+fn over_what_fails_once(rt: HostRuntime) -> Result<(), Fail> {
     let words = words_of(rt.alloc(), "replay")?;
-    let mut source = StdSource::new(Broken::ReadFails);
+    let mut source = StdSource::new(FailsOnce {
+        fault: Fault::Error,
+        failed: false,
+    });
     let status = gsi_replay(
         rt.alloc(),
         words.as_slice(),
@@ -282,10 +307,13 @@ fn over_what_fails(rt: HostRuntime) -> Result<(), Fail> {
         &mut SureSink::new(),
     );
     assert_eq!(rt; status.code(), 4);
-    for broken in [Broken::TakesNothing, Broken::FlushFails] {
+    for fault in [Fault::Error, Fault::TakesNothing, Fault::Flush] {
         let bytes = Vec::from_slice(rt.alloc(), HEADER.as_bytes())?;
         let mut source = SureSource::new(rt.alloc(), bytes);
-        let mut sink = StdSink::new(broken);
+        let mut sink = StdSink::new(FailsOnce {
+            fault,
+            failed: false,
+        });
         let status = gsi_replay(rt.alloc(), words.as_slice(), &mut source, &mut sink);
         assert_eq!(rt; status.code(), 5);
     }

@@ -10,7 +10,7 @@ use Rattle.std.specs.declared.alloc.Global.{Global}
 use Rattle.n1ql_value.specs.declared.range.Range.{Range}
 use Rattle.n1ql_value.specs.declared.value.Value.{Value}
 use Rattle.seq_vector.specs.Vectors.{zeros}
-use Rattle.vb_store.specs.Mutations.{high_of, next_of}
+use Rattle.vb_store.specs.Mutations.{high_of, next_mutation}
 use Rattle.scan_history.specs.declared.command.Command.{Command}
 use Rattle.scan_history.specs.declared.command.Command.TheVariants.{Upsert, Delete, Ddl, Scan}
 use Rattle.scan_history.specs.declared.script.Script.{Script}
@@ -19,14 +19,14 @@ use Rattle.scan_history.specs.Ddl.{definition_of_text}
 use Rattle.scan_history.specs.Events.{Event, mutate, define, publish, online, start, answer}
 use Rattle.scan_history.specs.Fold.{work, Client, Index, State, state_after}
 use Rattle.scan_history.specs.Answers.{command_at}
-use Rattle.gsi_sched.specs.declared.built.Built.{Built}
-use Rattle.gsi_sched.specs.declared.machine.Machine.{Machine}
-use Rattle.gsi_sched.specs.Replay.{catch_up, scanned, board_of, opening, action_by, action, after_actions}
-use Rattle.gsi_sched.specs.Run.{shown, IsRun, IsAfter, publications}
+use Rattle.gsi_sched.specs.declared.index_build.IndexBuild.{IndexBuild}
+use Rattle.gsi_sched.specs.declared.replay_state.ReplayState.{ReplayState}
+use Rattle.gsi_sched.specs.Replay.{catch_up, scanned, published_of, opening, action_by, action, after_actions}
+use Rattle.gsi_sched.specs.inner.Run.{shown, IsRun, IsAfter, publications}
 use Rattle.gsi_sched.proofs.Runs.{created_events, fresh_index, was_empty, after_definition, defined_index, demand_events, answered_events, has_index, start_client, start_indexes}
 
 -- with nothing open the client opens its next command
-pub first_action : (script : Script) (k : ℕ) (m : Machine) (command : Command) → IsRun script k m → command_at script 0 k ≡ Some command
+pub first_action : (script : Script) (k : ℕ) (m : ReplayState) (command : Command) → IsRun script k m → command_at script 0 k ≡ Some command
     → action script m.events 0 ≡ opening script.vbuckets (state_after script.vbuckets m.events) 0 command
 first_action script k m command run is =
     let s = state_after script.vbuckets m.events in
@@ -35,28 +35,28 @@ first_action script k m command run is =
     ∙ ap (λ o. option_map_or (opening script.vbuckets s 0) o []) is)
 
 -- a mutation is one action
-pub upserted : (script : Script) (k : ℕ) (m : Machine) (id : List ℕ) (doc : Value) (events : List Event) → IsRun script k m → command_at script 0 k ≡ Some (Upsert id doc)
-    → events ≡ m.events ++ mutate 0 k (next_of m.store.vbuckets m.store.log id (Some doc)) ∷ [] → IsAfter script m.events events
+pub upserted : (script : Script) (k : ℕ) (m : ReplayState) (id : List ℕ) (doc : Value) (events : List Event) → IsRun script k m → command_at script 0 k ≡ Some (Upsert id doc)
+    → events ≡ m.events ++ mutate 0 k (next_mutation m.store.vbuckets m.store.log id (Some doc)) ∷ [] → IsAfter script m.events events
 upserted script k m id doc events run is e =
     let s = state_after script.vbuckets m.events in (
       1,
       omega arith,
       e ∙ ap (λ more. m.events ++ more)
-          (ap (λ n. mutate 0 k (next_of n m.store.log id (Some doc)) ∷ []) run.vbuckets
-          ∙ (ap (λ l. mutate 0 k (next_of script.vbuckets l id (Some doc)) ∷ []) run.log
-          ∙ (ap (λ j. mutate 0 j (next_of script.vbuckets s.log id (Some doc)) ∷ []) (sym run.next) ∙ sym (first_action script k m (Upsert id doc) run is)))),
+          (ap (λ n. mutate 0 k (next_mutation n m.store.log id (Some doc)) ∷ []) run.vbuckets
+          ∙ (ap (λ l. mutate 0 k (next_mutation script.vbuckets l id (Some doc)) ∷ []) run.log
+          ∙ (ap (λ j. mutate 0 j (next_mutation script.vbuckets s.log id (Some doc)) ∷ []) (sym run.next) ∙ sym (first_action script k m (Upsert id doc) run is)))),
     )
 
-pub deleted : (script : Script) (k : ℕ) (m : Machine) (id : List ℕ) (events : List Event) → IsRun script k m → command_at script 0 k ≡ Some (Delete id)
-    → events ≡ m.events ++ mutate 0 k (next_of m.store.vbuckets m.store.log id None) ∷ [] → IsAfter script m.events events
+pub deleted : (script : Script) (k : ℕ) (m : ReplayState) (id : List ℕ) (events : List Event) → IsRun script k m → command_at script 0 k ≡ Some (Delete id)
+    → events ≡ m.events ++ mutate 0 k (next_mutation m.store.vbuckets m.store.log id None) ∷ [] → IsAfter script m.events events
 deleted script k m id events run is e =
     let s = state_after script.vbuckets m.events in (
       1,
       omega arith,
       e ∙ ap (λ more. m.events ++ more)
-          (ap (λ n. mutate 0 k (next_of n m.store.log id None) ∷ []) run.vbuckets
-          ∙ (ap (λ l. mutate 0 k (next_of script.vbuckets l id None) ∷ []) run.log
-          ∙ (ap (λ j. mutate 0 j (next_of script.vbuckets s.log id None) ∷ []) (sym run.next) ∙ sym (first_action script k m (Delete id) run is)))),
+          (ap (λ n. mutate 0 k (next_mutation n m.store.log id None) ∷ []) run.vbuckets
+          ∙ (ap (λ l. mutate 0 k (next_mutation script.vbuckets l id None) ∷ []) run.log
+          ∙ (ap (λ j. mutate 0 j (next_mutation script.vbuckets s.log id None) ∷ []) (sym run.next) ∙ sym (first_action script k m (Delete id) run is)))),
     )
 
 two_actions : (script : Script) (events first second : List Event) → action script events 0 ≡ first → action script (events ++ first) 0 ≡ second → (events ++ first) ++ second ≡ after_actions script 0 2 events
@@ -64,8 +64,8 @@ two_actions script events first second a b =
     ap (λ more. (events ++ first) ++ more) (sym b) ∙ ap (λ es. es ++ action script es 0) (ap (λ more. events ++ more) (sym a))
 
 -- the creation of the index is two actions
-pub created : (script : Script) (k : ℕ) (m : Machine) (text : List ℕ) (def : IndexDef) (at : Option (Arc (List ℕ) Global)) (b : Built) (events : List Event) → (run : IsRun script k m) → (empty : m.index ≡ None)
-    → command_at script 0 k ≡ Some (Ddl text) → definition_of_text text ≡ Some def → arc_value b.board ≡ zeros script.vbuckets → publications at ≡ catch_up (high_of script.vbuckets m.store.log) (shown b)
+pub created : (script : Script) (k : ℕ) (m : ReplayState) (text : List ℕ) (def : IndexDef) (at : Option (Arc (List ℕ) Global)) (b : IndexBuild) (events : List Event) → (run : IsRun script k m) → (empty : m.index ≡ None)
+    → command_at script 0 k ≡ Some (Ddl text) → definition_of_text text ≡ Some def → arc_value b.published ≡ zeros script.vbuckets → publications at ≡ catch_up (high_of script.vbuckets m.store.log) (shown b)
     → events ≡ created_events script k m run empty def at → IsAfter script m.events events
 created script k m text def at b events run empty is reads board published e =
     let n = script.vbuckets in
@@ -93,7 +93,7 @@ created script k m text def at b events run empty is reads board published e =
     caught_up high xs = flat_map (λ x. if list_any (λ i. x.number == i) (0 ∷ []) then catch_up high x else []) xs
 
 -- a scan is two actions
-pub scanned_twice : (script : Script) (k : ℕ) (m : Machine) (b : Built) (index : List ℕ) (spans : List (List Range)) (events : List Event) → (run : IsRun script k m) → (there : m.index ≡ Some b)
+pub scanned_twice : (script : Script) (k : ℕ) (m : ReplayState) (b : IndexBuild) (index : List ℕ) (spans : List (List Range)) (events : List Event) → (run : IsRun script k m) → (there : m.index ≡ Some b)
     → command_at script 0 k ≡ Some (Scan index spans) → events ≡ answered_events script k m run b there → IsAfter script m.events events
 scanned_twice script k m b index spans events run there is e =
     let n = script.vbuckets in
@@ -105,8 +105,8 @@ scanned_twice script k m b index spans events run there is e =
     ∙ ap (λ v. start 0 k 0 v ∷ []) (sym run.seen))) in
     let t = state_after n (demand_events script k m run b there) in
     let client = start_client script k m run b there in
-    let second : action script (demand_events script k m run b there) 0 ≡ answer 0 k (arc_value b.board) ∷ [] =
+    let second : action script (demand_events script k m run b there) 0 ≡ answer 0 k (arc_value b.published) ∷ [] =
     ap (λ (c : Client). action_by script t 0 c.opened) client
-    ∙ (ap (λ (xs : List Index). answer 0 (t.client 0).next (board_of 0 xs) ∷ []) (start_indexes script k m run b there)
-    ∙ ap (λ (j : ℕ). answer 0 j (arc_value b.board) ∷ []) (ap (λ (c : Client). c.next) client ∙ run.next)) in
-    (2, omega arith, e ∙ two_actions script m.events (start 0 k 0 m.seen ∷ []) (answer 0 k (arc_value b.board) ∷ []) first second)
+    ∙ (ap (λ (xs : List Index). answer 0 (t.client 0).next (published_of 0 xs) ∷ []) (start_indexes script k m run b there)
+    ∙ ap (λ (j : ℕ). answer 0 j (arc_value b.published) ∷ []) (ap (λ (c : Client). c.next) client ∙ run.next)) in
+    (2, omega arith, e ∙ two_actions script m.events (start 0 k 0 m.seen ∷ []) (answer 0 k (arc_value b.published) ∷ []) first second)

@@ -10,7 +10,7 @@ use Rattle.scan_history.specs.Fold.{State, first_state, step, state_after}
 use Rattle.scan_history.specs.Answers.{started_definition, scan_under, spans_of, command_at, answer_at, answers_from, answers_of}
 use Rattle.scan_history.specs.RowTexts.{rows_text}
 use Rattle.gsi_sched.proofs.Applied.{fold-push}
-use Rattle.gsi_sched.specs.Run.{IsReached, IsReachedAt}
+use Rattle.gsi_sched.specs.inner.Run.{IsReached, IsReachedAt}
 
 pub state_after-push : (n : ℕ) (events : List Event) (e : Event) → state_after n (events ++ e ∷ []) ≡ step n (state_after n events) e
 unfolding state_after

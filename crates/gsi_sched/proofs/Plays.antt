@@ -18,11 +18,11 @@ use Rattle.scan_history.specs.declared.done.End.{End}
 use Rattle.scan_history.specs.Events.{Event}
 use Rattle.scan_history.specs.Fold.{Index, State, first_state, state_after}
 use Rattle.scan_history.specs.Answers.{command_at, answers_of, ends_of, end_of}
-use Rattle.gsi_sched.specs.declared.built.Built.{Built}
-use Rattle.gsi_sched.specs.declared.machine.Machine.{Machine}
+use Rattle.gsi_sched.specs.declared.index_build.IndexBuild.{IndexBuild}
+use Rattle.gsi_sched.specs.declared.replay_state.ReplayState.{ReplayState}
 use Rattle.gsi_sched.specs.Replay.{catch_up, opening, commands_of, action_by, action, after_actions, after_client, after_clients, last_publications, replay_of}
-use Rattle.gsi_sched.specs.Run.{StandsFor, shown, HoldsIndexes, IsReached, IsRunAt, IsRun, IsAfter, IsPlayed, publications, board_after}
-use Rattle.scan_history.specs.Sound.{MayCome, made_after, IsInOrder, IsBuilt, all_commands}
+use Rattle.gsi_sched.specs.inner.Run.{StandsFor, shown, HoldsIndexes, IsReached, IsRunAt, IsRun, IsAfter, IsPlayed, publications, published_after}
+use Rattle.scan_history.specs.Sound.{MayCome, made_after, IsInOrder, IsSupported, all_commands}
 use Rattle.gsi_sched.proofs.Runs.{kept_of, kept_published, state_published, has_index, no_indexes}
 
 pub none_of : {A : Type 0} (o : Option A) → is_some o ≡ false → o ≡ None
@@ -51,7 +51,7 @@ order_next made (x ∷ xs) zero c h o =
     subst (λ (d : Command). MayCome made d × IsInOrder (made_after made d) xs) same o
 order_next made (x ∷ xs) (suc k) c h o = order_next made xs k c h o
 
-pub order_at : (script : Script) (k : ℕ) (m : Machine) (c : Command) → IsPlayed script k m → command_at script 0 k ≡ Some c → MayCome (is_some m.index) c × IsInOrder (made_after (is_some m.index) c) (drop (k + 1) (commands_of script 0))
+pub order_at : (script : Script) (k : ℕ) (m : ReplayState) (c : Command) → IsPlayed script k m → command_at script 0 k ≡ Some c → MayCome (is_some m.index) c × IsInOrder (made_after (is_some m.index) c) (drop (k + 1) (commands_of script 0))
 order_at script k m c played is = rw add-one (order_next (is_some m.index) (commands_of script 0) k c (sym (command_in_list script k) ∙ is) played.in_order)
 
 actions_added : (script : Script) (a b : ℕ) (events : List Event) → after_actions script 0 (a + b) events ≡ after_actions script 0 b (after_actions script 0 a events)
@@ -60,7 +60,7 @@ actions_added script (suc a) b events =
     let one : suc a + b ≡ suc (a + b) = omega arith in
     ap (λ n. after_actions script 0 n events) one ∙ actions_added script a b (events ++ action script events 0)
 
-pub played_more : (script : Script) (k : ℕ) (m m' : Machine) (c : Command) → IsPlayed script k m → command_at script 0 k ≡ Some c → IsRun script (k + 1) m' → IsAfter script m.events m'.events
+pub played_more : (script : Script) (k : ℕ) (m m' : ReplayState) (c : Command) → IsPlayed script k m → command_at script 0 k ≡ Some c → IsRun script (k + 1) m' → IsAfter script m.events m'.events
     → is_some m'.index ≡ made_after (is_some m.index) c → IsPlayed script (k + 1) m'
 played_more script k m m' c played is run after made = record {
   run = run;
@@ -79,14 +79,14 @@ past_end : {A : Type 0} (xs : List A) → slice_get xs (length xs) ≡ None
 past_end [] = refl
 past_end (x ∷ xs) = past_end xs
 
-nothing_left : (script : Script) (m : Machine) → IsRun script (length (commands_of script 0)) m → action script m.events 0 ≡ []
+nothing_left : (script : Script) (m : ReplayState) → IsRun script (length (commands_of script 0)) m → action script m.events 0 ≡ []
 nothing_left script m run =
     let s = state_after script.vbuckets m.events in
     ap (action_by script s 0) run.opened
     ∙ (ap (λ j. option_map_or (opening script.vbuckets s 0) (command_at script 0 j) []) run.next
     ∙ ap (λ o. option_map_or (opening script.vbuckets s 0) o []) (command_in_list script (length (commands_of script 0)) ∙ past_end (commands_of script 0)))
 
-pub all_played : (script : Script) (m : Machine) → IsPlayed script (length (commands_of script 0)) m → m.events ≡ after_client script 0 []
+pub all_played : (script : Script) (m : ReplayState) → IsPlayed script (length (commands_of script 0)) m → m.events ≡ after_client script 0 []
 all_played script m played =
     let n = 2 * length (commands_of script 0) in
     let rest : played.actions + (n - played.actions) ≡ n = let few = played.few in omega arith in
@@ -95,7 +95,7 @@ all_played script m played =
     ∙ (sym (actions_added script played.actions (n - played.actions) [])
     ∙ ap (λ a. after_actions script 0 a []) rest))
 
-pub replayed : (script : Script) (m : Machine) (events : List Event) → script.clients ≡ 1 → IsPlayed script (length (commands_of script 0)) m
+pub replayed : (script : Script) (m : ReplayState) (events : List Event) → script.clients ≡ 1 → IsPlayed script (length (commands_of script 0)) m
     → events ≡ m.events ++ last_publications script.vbuckets (state_after script.vbuckets m.events) → events ≡ replay_of script
 unfolding replay_of
 replayed script m events one played closed =
@@ -103,7 +103,7 @@ replayed script m events one played closed =
 
 -- ---- the ends, with no index and with one
 
-pub closed_none : (script : Script) (k : ℕ) (m : Machine) → IsRun script k m → m.index ≡ None
+pub closed_none : (script : Script) (k : ℕ) (m : ReplayState) → IsRun script k m → m.index ≡ None
     → (m.events ≡ m.events ++ last_publications script.vbuckets (state_after script.vbuckets m.events)) × ([] ≡ ends_of script m.events)
 unfolding ends_of
 closed_none script k m run none =
@@ -118,7 +118,7 @@ closed_none script k m run none =
     listed : List Mutation → List Index → List End
     listed log xs = map_list (end_of log) xs
 
-pub closed_events : (script : Script) (k : ℕ) (m : Machine) (run : IsRun script k m) (b : Built) (there : m.index ≡ Some b) (at : Option (Arc (List ℕ) Global))
+pub closed_events : (script : Script) (k : ℕ) (m : ReplayState) (run : IsRun script k m) (b : IndexBuild) (there : m.index ≡ Some b) (at : Option (Arc (List ℕ) Global))
     → publications at ≡ catch_up (high_of script.vbuckets m.store.log) (shown b)
     → m.events ++ publications at ≡ m.events ++ last_publications script.vbuckets (state_after script.vbuckets m.events)
 closed_events script k m run b there at is =
@@ -128,14 +128,14 @@ closed_events script k m run b there at is =
     (is ∙ (ap (λ l. catch_up (high_of n l) (shown b)) run.log ∙ (sym (append-nil (catch_up (high_of n s.log) (shown b)))
     ∙ ap (λ (xs : List Index). flat_map (λ x. if x.online then catch_up (high_of n s.log) x else []) xs) (sym (has_index script k m run b there).0))))
 
-pub closed_answers : (script : Script) (k : ℕ) (m : Machine) (at : Option (Arc (List ℕ) Global)) (events : List Event) → IsRun script k m → events ≡ m.events ++ publications at → m.answers ≡ answers_of script events
+pub closed_answers : (script : Script) (k : ℕ) (m : ReplayState) (at : Option (Arc (List ℕ) Global)) (events : List Event) → IsRun script k m → events ≡ m.events ++ publications at → m.answers ≡ answers_of script events
 closed_answers script k m at events run is =
     let kept = kept_published script m.store.log m.answers m.events at (kept_of script k m run) in
     kept.answers_are ∙ ap (answers_of script) (sym is)
 
-pub closed_ends : (script : Script) (k : ℕ) (m : Machine) (run : IsRun script k m) (b b' : Built) (there : m.index ≡ Some b) (at : Option (Arc (List ℕ) Global)) (events : List Event) (end : End)
-    → events ≡ m.events ++ publications at → arc_value b'.def ≡ arc_value b.def → arc_value b'.board ≡ board_after at (arc_value b.board) → StandsFor script.vbuckets m.store.log b'
-    → end ≡ record { i = 0; name = (arc_value b'.def).name; online = true; vector = arc_value b'.board; rows = length b'.snapshot } → end ∷ [] ≡ ends_of script events
+pub closed_ends : (script : Script) (k : ℕ) (m : ReplayState) (run : IsRun script k m) (b b' : IndexBuild) (there : m.index ≡ Some b) (at : Option (Arc (List ℕ) Global)) (events : List Event) (end : End)
+    → events ≡ m.events ++ publications at → arc_value b'.def ≡ arc_value b.def → arc_value b'.published ≡ published_after at (arc_value b.published) → StandsFor script.vbuckets m.store.log b'
+    → end ≡ record { i = 0; name = (arc_value b'.def).name; online = true; vector = arc_value b'.published; rows = length b'.snapshot } → end ∷ [] ≡ ends_of script events
 unfolding ends_of
 closed_ends script k m run b b' there at events end is def board stands e =
     let n = script.vbuckets in
@@ -143,10 +143,10 @@ closed_ends script k m run b b' there at events end is def board stands e =
     let after = state_published n m.events at (shown b) (has_index script k m run b there).0 refl in
     let shows : (state_after n events).indexes ≡ shown b' ∷ [] =
     ap (λ es. (state_after n es).indexes) is ∙ (after.0
-    ∙ (ap (λ v. (let x : Index = record { number = 0; def = arc_value b.def; online = true; board = v } in x) ∷ []) (sym board)
-    ∙ ap (λ f. (let x : Index = record { number = 0; def = f; online = true; board = arc_value b'.board } in x) ∷ []) (sym def))) in
+    ∙ (ap (λ v. (let x : Index = record { number = 0; def = arc_value b.def; online = true; published = v } in x) ∷ []) (sym board)
+    ∙ ap (λ f. (let x : Index = record { number = 0; def = f; online = true; published = arc_value b'.published } in x) ∷ []) (sym def))) in
     let log : m.store.log ≡ (state_after n events).log = kept.log_is ∙ ap (λ es. (state_after n es).log) (sym is) in
-    ap (λ (x : End). x ∷ []) (e ∙ ap (λ rows. ended (arc_value b'.board) (length rows)) (stands.snapshot ∙ ap (λ l. index_of (arc_value b'.def) (documents_at l (arc_value b'.board))) log))
+    ap (λ (x : End). x ∷ []) (e ∙ ap (λ rows. ended (arc_value b'.published) (length rows)) (stands.snapshot ∙ ap (λ l. index_of (arc_value b'.def) (documents_at l (arc_value b'.published))) log))
     ∙ ap (λ (xs : List Index). map_list (end_of (state_after n events).log) xs) (sym shows)
   where
     ended : List ℕ → ℕ → End
@@ -168,7 +168,7 @@ first_among (commands ∷ others) =
 pub few_commands : (script : Script) → length (all_commands script) ≤ 65536 → length (commands_of script 0) < 2 ^ 32
 few_commands script few = let among = first_among script.commands in omega arith
 
-pub begun : (script : Script) (m : Machine) → IsBuilt script → m.store.vbuckets ≡ script.vbuckets → m.store.log ≡ [] → m.index ≡ None → m.seen ≡ zeros script.vbuckets → length m.seen ≡ script.vbuckets → m.events ≡ [] → m.answers ≡ []
+pub begun : (script : Script) (m : ReplayState) → IsSupported script → m.store.vbuckets ≡ script.vbuckets → m.store.log ≡ [] → m.index ≡ None → m.seen ≡ zeros script.vbuckets → length m.seen ≡ script.vbuckets → m.events ≡ [] → m.answers ≡ []
     → IsPlayed script 0 m
 unfolding state_after answers_of
 begun script m built vbuckets log index seen size events answers =
@@ -182,14 +182,14 @@ begun script m built vbuckets log index seen size events answers =
         next = refl;
         seen = seen;
         size = size;
-        indexes = subst (λ (o : Option Built). HoldsIndexes n m.store.log o []) (sym index) refl;
+        indexes = subst (λ (o : Option IndexBuild). HoldsIndexes n m.store.log o []) (sym index) refl;
         answers = answers ∙ ap (answers_of script) (sym events);
         reached = subst (λ (es : List Event). AllByRecursion (IsReached n m.store.log) es) (sym events) tt;
       });
       actions = 0;
       few = omega arith;
       events = events;
-      in_order = subst (λ (o : Option Built). IsInOrder (is_some o) (commands_of script 0)) (sym index) (first_in_order script.commands built.in_order);
+      in_order = subst (λ (o : Option IndexBuild). IsInOrder (is_some o) (commands_of script 0)) (sym index) (first_in_order script.commands built.in_order);
     }
 
 pub on_ok_three : {E A B C D : Type 0} (r : Result ⊤ E) → (A → B → C → D) → OnOk r A → OnOk r B → OnOk r C → OnOk r D

@@ -21,16 +21,16 @@ use Rattle.std.specs.declared.sync.Arc.{Arc}
 use Rattle.std.specs.declared.alloc.Global.{Global}
 use Rattle.scan_history.specs.declared.script.Script.{Script}
 use Rattle.scan_history.specs.Events.{Event, mutate, define, publish, online, start, answer}
-use Rattle.scan_history.specs.Fold.{published, gone_online, closed, own_step, Client, Opened, started, Index, State, log_step, step, state_after}
+use Rattle.scan_history.specs.Fold.{with_publication, gone_online, closed, own_step, Client, Opened, started, Index, State, log_step, step, state_after}
 use Rattle.scan_history.specs.declared.done.Answered.{Answered}
 use Rattle.scan_history.specs.Answers.{command_at, spans_of, definition_of, definition_in, started_definition, scan_under, answer_at, answers_of}
 use Rattle.scan_history.specs.RowTexts.{rows_text}
 use Rattle.scan_history.specs.declared.command.Command.TheVariants.{Scan}
 use Rattle.n1ql_value.specs.declared.range.Range.{Range}
-use Rattle.index_tree.specs.Range.{range_of}
-use Rattle.gsi_sched.specs.declared.built.Built.{Built}
-use Rattle.gsi_sched.specs.declared.machine.Machine.{Machine}
-use Rattle.gsi_sched.specs.Run.{IsReachedAt, StandsFor, shown, HoldsIndexes, IsReached, IsRunAt, IsRun, publications, board_after}
+use Rattle.index_tree.specs.Range.{rows_within}
+use Rattle.gsi_sched.specs.declared.index_build.IndexBuild.{IndexBuild}
+use Rattle.gsi_sched.specs.declared.replay_state.ReplayState.{ReplayState}
+use Rattle.gsi_sched.specs.inner.Run.{IsReachedAt, StandsFor, shown, HoldsIndexes, IsReached, IsRunAt, IsRun, publications, published_after}
 use Rattle.gsi_sched.proofs.Histories.{state_after-push, answers_of-grows}
 
 All-push : {A : Type 0} (P : A → Type 0) (xs : List A) (x : A) → AllByRecursion P xs → P x → AllByRecursion P (xs ++ x ∷ [])
@@ -58,7 +58,7 @@ kept_quiet : (script : Script) (log : List Mutation) (answers : List Answered) (
 kept_quiet script log answers events e kept quiet reached none =
     subst (λ (given : List Answered). Kept script log given (events ++ e ∷ [])) (ap (λ more. answers ++ more) none ∙ append-nil answers) (kept_more script log answers events e kept quiet reached)
 
-pub kept_of : (script : Script) (k : ℕ) (m : Machine) → IsRun script k m → Kept script m.store.log m.answers m.events
+pub kept_of : (script : Script) (k : ℕ) (m : ReplayState) → IsRun script k m → Kept script m.store.log m.answers m.events
 kept_of script k m run = record { log_is = run.log; answers_are = run.answers; reached = run.reached }
 
 pub kept_published : (script : Script) (log : List Mutation) (answers : List Answered) (events : List Event) (at : Option (Arc (List ℕ) Global)) → Kept script log answers events → Kept script log answers (events ++ publications at)
@@ -89,21 +89,21 @@ module _ (n : ℕ) (log : List Mutation) (x : Mutation) (sized : length (high_of
   all_reached_on (e ∷ es) r = (event_reached_on e r.0, all_reached_on es r.1)
 
   module _ (growth : (v : List ℕ) → IsReachedAt n log v → documents_at (log ++ x ∷ []) v ≡ documents_at log v) where
-    pub stands_on : (b : Built) → StandsFor n log b → StandsFor n (log ++ x ∷ []) b
+    pub stands_on : (b : IndexBuild) → StandsFor n log b → StandsFor n (log ++ x ∷ []) b
     stands_on b s = record {
       formed = s.formed;
       applied = let h = s.applied in omega (arith, length-append log (x ∷ []));
       rows = subst (λ (front : List Mutation). HoldsKeys (keys_of (arc_value b.def)) (with_mutations map.empty front) b.state) (sym (take-append-le b.applied log (x ∷ []) s.applied)) s.rows;
-      snapshot = s.snapshot ∙ ap (index_of (arc_value b.def)) (sym (growth (arc_value b.board) s.reached));
-      reached = reached_on (arc_value b.board) s.reached;
+      snapshot = s.snapshot ∙ ap (index_of (arc_value b.def)) (sym (growth (arc_value b.published) s.reached));
+      reached = reached_on (arc_value b.published) s.reached;
     }
 
-    indexes_on : (o : Option Built) (xs : List Index) → HoldsIndexes n log o xs → HoldsIndexes n (log ++ x ∷ []) o xs
+    indexes_on : (o : Option IndexBuild) (xs : List Index) → HoldsIndexes n log o xs → HoldsIndexes n (log ++ x ∷ []) o xs
     indexes_on None xs h = h
     indexes_on (Some b) xs h = (h.0, stands_on b h.1)
 
--- The machine after a mutation of client 0.
-pub run_mutated : (script : Script) (k : ℕ) (m m' : Machine) (x : Mutation) → IsRun script k m
+-- The state after a mutation of client 0.
+pub run_mutated : (script : Script) (k : ℕ) (m m' : ReplayState) (x : Mutation) → IsRun script k m
     → length (high_of script.vbuckets m.store.log) ≡ script.vbuckets → IsCovered (high_of script.vbuckets m.store.log) (high_of script.vbuckets (m.store.log ++ x ∷ []))
     → ((v : List ℕ) → IsReachedAt script.vbuckets m.store.log v → documents_at (m.store.log ++ x ∷ []) v ≡ documents_at m.store.log v)
     → m'.store.vbuckets ≡ m.store.vbuckets → m'.store.log ≡ m.store.log ++ x ∷ [] → m'.index ≡ m.index → m'.seen ≡ m.seen → m'.answers ≡ m.answers
@@ -121,7 +121,7 @@ run_mutated script k m m' x run sized grows growth vbuckets log index seen answe
       seen = seen ∙ run.seen;
       size = ap length seen ∙ run.size;
       indexes = subst (λ (l : List Mutation). HoldsIndexes n l m'.index s.indexes) (sym log)
-          (subst (λ (o : Option Built). HoldsIndexes n (m.store.log ++ x ∷ []) o s.indexes) (sym index) (indexes_on n m.store.log x sized grows growth m.index s.indexes run.indexes));
+          (subst (λ (o : Option IndexBuild). HoldsIndexes n (m.store.log ++ x ∷ []) o s.indexes) (sym index) (indexes_on n m.store.log x sized grows growth m.index s.indexes run.indexes));
       answers = answers ∙ (run.answers ∙ (sym (append-nil (answers_of script m.events))
           ∙ (sym (answers_of-grows script m.store.log (m.store.log ++ x ∷ []) growth m.events e run.reached (sym run.log) (ap (λ l. l ++ x ∷ []) (sym run.log)))
           ∙ ap (answers_of script) (sym events))));
@@ -131,7 +131,7 @@ run_mutated script k m m' x run sized grows growth vbuckets log index seen answe
     })
 
 -- the rows, the snapshot and the board of an index to which nothing was applied yet
-pub stands_new : (n : ℕ) (log : List Mutation) (b : Built) → IsFormed (arc_value b.def) → b.applied ≡ 0 → b.state ≡ map.empty → b.snapshot ≡ all_rows map.empty → arc_value b.board ≡ zeros n
+pub stands_new : (n : ℕ) (log : List Mutation) (b : IndexBuild) → IsFormed (arc_value b.def) → b.applied ≡ 0 → b.state ≡ map.empty → b.snapshot ≡ all_rows map.empty → arc_value b.published ≡ zeros n
     → HoldsKeys (keys_of (arc_value b.def)) map.empty map.empty → all_rows map.empty ≡ index_of (arc_value b.def) map.empty → high_of n [] ≡ zeros n → length (high_of n []) ≡ n
     → IsCovered (high_of n []) (high_of n log) → documents_at log (zeros n) ≡ documents_at [] (zeros n) → StandsFor n log b
 unfolding documents_at
@@ -143,8 +143,8 @@ stands_new n log b formed applied state snapshot board no_rows fresh none sized 
   reached = subst (IsReachedAt n log) (none ∙ sym board) (record { size = sized; covered = grows });
 }
 
-pub stands_fresh : {E : Type 0} (n : ℕ) (log : List Mutation) (r : Result Built E)
-    → IfOk r (λ b. IsFormed (arc_value b.def)) → IfOk r (λ b. b.applied ≡ 0) → IfOk r (λ b. b.state ≡ map.empty) → IfOk r (λ b. b.snapshot ≡ all_rows map.empty) → IfOk r (λ b. arc_value b.board ≡ zeros n)
+pub stands_fresh : {E : Type 0} (n : ℕ) (log : List Mutation) (r : Result IndexBuild E)
+    → IfOk r (λ b. IsFormed (arc_value b.def)) → IfOk r (λ b. b.applied ≡ 0) → IfOk r (λ b. b.state ≡ map.empty) → IfOk r (λ b. b.snapshot ≡ all_rows map.empty) → IfOk r (λ b. arc_value b.published ≡ zeros n)
     → ((d : IndexDef) → HoldsKeys (keys_of d) map.empty map.empty) → ((d : IndexDef) → all_rows map.empty ≡ index_of d map.empty)
     → high_of n [] ≡ zeros n → length (high_of n []) ≡ n → IsCovered (high_of n []) (high_of n log) → documents_at log (zeros n) ≡ documents_at [] (zeros n)
     → IfOk r (λ b. StandsFor n log b)
@@ -154,27 +154,27 @@ stands_fresh n log (Ok b) formed applied state snapshot board no_rows fresh none
 
 -- a publication leaves the clients as they are, and moves the board of the one index
 pub state_published : (n : ℕ) (events : List Event) (at : Option (Arc (List ℕ) Global)) (x : Index) → (state_after n events).indexes ≡ x ∷ [] → x.number ≡ 0
-    → ((state_after n (events ++ publications at)).indexes ≡ record x { board = board_after at x.board } ∷ []) × ((state_after n (events ++ publications at)).client 0 ≡ (state_after n events).client 0)
+    → ((state_after n (events ++ publications at)).indexes ≡ record x { published = published_after at x.published } ∷ []) × ((state_after n (events ++ publications at)).client 0 ≡ (state_after n events).client 0)
 state_published n events None x is number =
     (ap (λ (s : State). s.indexes) (ap (state_after n) (append-nil events)) ∙ is, ap (λ (s : State). s.client 0) (ap (state_after n) (append-nil events)))
 state_published n events (Some at) x is number = (
-  ap (λ (s : State). s.indexes) (state_after-push n events (publish 0 (arc_value at))) ∙ (ap (map_list (published 0 (arc_value at))) is ∙ ap (λ (b : Bool). (if b then record x { board = arc_value at } else x) ∷ []) (ap (λ (i : ℕ). i == 0) number)),
+  ap (λ (s : State). s.indexes) (state_after-push n events (publish 0 (arc_value at))) ∙ (ap (map_list (with_publication 0 (arc_value at))) is ∙ ap (λ (b : Bool). (if b then record x { published = arc_value at } else x) ∷ []) (ap (λ (i : ℕ). i == 0) number)),
   ap (λ (s : State). s.client 0) (state_after-push n events (publish 0 (arc_value at))),
 )
 
 -- ---- the creation of the index
 
 abbrev online_index : IndexDef → List ℕ → Index
-online_index def board = record { number = 0; def = def; online = true; board = board }
+online_index def board = record { number = 0; def = def; online = true; published = board }
 
 same_index : (f g : IndexDef) (u v : List ℕ) → f ≡ g → u ≡ v → online_index f u ∷ [] ≡ online_index g v ∷ []
 same_index f g u v def board = ap (λ (h : IndexDef). online_index h u ∷ []) def ∙ ap (λ (w : List ℕ). online_index g w ∷ []) board
 
-pub no_indexes : (n : ℕ) (log : List Mutation) (o : Option Built) (xs : List Index) → o ≡ None → HoldsIndexes n log o xs → xs ≡ []
+pub no_indexes : (n : ℕ) (log : List Mutation) (o : Option IndexBuild) (xs : List Index) → o ≡ None → HoldsIndexes n log o xs → xs ≡ []
 no_indexes n log None xs e h = h
 no_indexes n log (Some b) xs e h = absurd (cc)
 
-module _ (script : Script) (k : ℕ) (m : Machine) (run : IsRun script k m) (empty : m.index ≡ None) (def : IndexDef) (at : Option (Arc (List ℕ) Global)) where
+module _ (script : Script) (k : ℕ) (m : ReplayState) (run : IsRun script k m) (empty : m.index ≡ None) (def : IndexDef) (at : Option (Arc (List ℕ) Global)) where
   abbrev n : ℕ
   n = script.vbuckets
 
@@ -189,7 +189,7 @@ module _ (script : Script) (k : ℕ) (m : Machine) (run : IsRun script k m) (emp
   created_events = published_events ++ online 0 k (0 ∷ []) ∷ []
 
   abbrev pub fresh_index : Index
-  fresh_index = record { number = 0; def = def; online = false; board = zeros n }
+  fresh_index = record { number = 0; def = def; online = false; published = zeros n }
 
   pub was_empty : (state_after n m.events).indexes ≡ []
   was_empty = no_indexes n m.store.log m.index (state_after n m.events).indexes empty run.indexes
@@ -200,13 +200,13 @@ module _ (script : Script) (k : ℕ) (m : Machine) (run : IsRun script k m) (emp
   pub defined_index : (state_after n defined_events).indexes ≡ fresh_index ∷ []
   defined_index = ap (λ (s : State). s.indexes) after_definition ∙ ap (λ (xs : List Index). xs ++ fresh_index ∷ []) was_empty
 
-  published_state : ((state_after n published_events).indexes ≡ record fresh_index { board = board_after at (zeros n) } ∷ []) × ((state_after n published_events).client 0 ≡ (state_after n defined_events).client 0)
+  published_state : ((state_after n published_events).indexes ≡ record fresh_index { published = published_after at (zeros n) } ∷ []) × ((state_after n published_events).client 0 ≡ (state_after n defined_events).client 0)
   published_state = state_published n defined_events at fresh_index defined_index refl
 
   after_online : state_after n created_events ≡ step n (state_after n published_events) (online 0 k (0 ∷ []))
   after_online = state_after-push n published_events (online 0 k (0 ∷ []))
 
-  created_index : (state_after n created_events).indexes ≡ record { number = 0; def = def; online = true; board = board_after at (zeros n) } ∷ []
+  created_index : (state_after n created_events).indexes ≡ record { number = 0; def = def; online = true; published = published_after at (zeros n) } ∷ []
   created_index = ap (λ (s : State). s.indexes) after_online ∙ ap (map_list (gone_online (0 ∷ []))) published_state.0
 
   created_client : (state_after n created_events).client 0 ≡ closed ((state_after n m.events).client 0)
@@ -220,8 +220,8 @@ module _ (script : Script) (k : ℕ) (m : Machine) (run : IsRun script k m) (emp
       (kept_published script m.store.log m.answers defined_events at
       (kept_quiet script m.store.log m.answers m.events (define 0 k 0 false def) (kept_of script k m run) refl tt refl)) refl tt refl
 
-  pub run_created : (m' : Machine) (b : Built) → m'.store ≡ m.store → m'.index ≡ Some b → m'.seen ≡ m.seen → m'.answers ≡ m.answers → m'.events ≡ created_events → arc_value b.def ≡ def
-      → arc_value b.board ≡ board_after at (zeros n) → StandsFor n m.store.log b → IsRun script (k + 1) m'
+  pub run_created : (m' : ReplayState) (b : IndexBuild) → m'.store ≡ m.store → m'.index ≡ Some b → m'.seen ≡ m.seen → m'.answers ≡ m.answers → m'.events ≡ created_events → arc_value b.def ≡ def
+      → arc_value b.published ≡ published_after at (zeros n) → StandsFor n m.store.log b → IsRun script (k + 1) m'
   run_created m' b store index seen answers events def_is board stands =
       subst (λ (es : List Event). IsRunAt script (k + 1) m' (state_after n es)) (sym events) (record {
         vbuckets = ap (λ (a : Accepted). a.vbuckets) store ∙ run.vbuckets;
@@ -231,8 +231,8 @@ module _ (script : Script) (k : ℕ) (m : Machine) (run : IsRun script k m) (emp
         seen = seen ∙ (run.seen ∙ sym (ap (λ (c : Client). c.seen) created_client));
         size = ap length seen ∙ run.size;
         indexes = subst (λ (l : List Mutation). HoldsIndexes n l m'.index (state_after n created_events).indexes) (sym (ap (λ (a : Accepted). a.log) store))
-            (subst (λ (o : Option Built). HoldsIndexes n m.store.log o (state_after n created_events).indexes) (sym index)
-            (created_index ∙ same_index def (arc_value b.def) (board_after at (zeros n)) (arc_value b.board) (sym def_is) (sym board), stands));
+            (subst (λ (o : Option IndexBuild). HoldsIndexes n m.store.log o (state_after n created_events).indexes) (sym index)
+            (created_index ∙ same_index def (arc_value b.def) (published_after at (zeros n)) (arc_value b.published) (sym def_is) (sym board), stands));
         answers = answers ∙ (kept_created.answers_are ∙ ap (answers_of script) (sym events));
         reached = subst (λ (es : List Event). AllByRecursion (IsReached n m'.store.log) es) (sym events)
             (subst (λ (l : List Mutation). AllByRecursion (IsReached n l) created_events) (sym (ap (λ (a : Accepted). a.log) store)) kept_created.reached);
@@ -245,12 +245,12 @@ pointwise_length f [] w e = refl
 pointwise_length f (x ∷ xs) [] e = absurd (omega arith)
 pointwise_length f (x ∷ xs) (y ∷ ys) e = omega (arith, pointwise_length f xs ys (omega arith))
 
-module _ (script : Script) (k : ℕ) (m : Machine) (run : IsRun script k m) (b : Built) (there : m.index ≡ Some b) where
+module _ (script : Script) (k : ℕ) (m : ReplayState) (run : IsRun script k m) (b : IndexBuild) (there : m.index ≡ Some b) where
   abbrev vbs : ℕ
   vbs = script.vbuckets
 
   abbrev board : List ℕ
-  board = arc_value b.board
+  board = arc_value b.published
 
   abbrev pub demand_events : List Event
   demand_events = m.events ++ start 0 k 0 m.seen ∷ []
@@ -258,11 +258,11 @@ module _ (script : Script) (k : ℕ) (m : Machine) (run : IsRun script k m) (b :
   abbrev pub answered_events : List Event
   answered_events = demand_events ++ answer 0 k board ∷ []
 
-  one_index : (o : Option Built) (xs : List Index) → o ≡ Some b → HoldsIndexes vbs m.store.log o xs → (xs ≡ shown b ∷ []) × StandsFor vbs m.store.log b
+  one_index : (o : Option IndexBuild) (xs : List Index) → o ≡ Some b → HoldsIndexes vbs m.store.log o xs → (xs ≡ shown b ∷ []) × StandsFor vbs m.store.log b
   one_index None xs e h = absurd (cc)
   one_index (Some c) xs e h =
       let same : c ≡ b = cc in
-      subst (λ (d : Built). (xs ≡ shown d ∷ []) × StandsFor vbs m.store.log d) same h
+      subst (λ (d : IndexBuild). (xs ≡ shown d ∷ []) × StandsFor vbs m.store.log d) same h
 
   pub has_index : ((state_after vbs m.events).indexes ≡ shown b ∷ []) × StandsFor vbs m.store.log b
   has_index = one_index m.index (state_after vbs m.events).indexes there run.indexes
@@ -295,14 +295,14 @@ module _ (script : Script) (k : ℕ) (m : Machine) (run : IsRun script k m) (b :
   kept_started = kept_quiet script m.store.log m.answers m.events (start 0 k 0 m.seen) (kept_of script k m run) refl tt refl
 
   pub given_text : (index : List ℕ) (spans : List (List Range)) → command_at script 0 k ≡ Some (Scan index spans)
-      → rows_text (scan_under (started_definition (state_after vbs demand_events) 0) (spans_of (command_at script 0 k)) (documents_at m.store.log board)) ≡ rows_text (range_of spans b.snapshot)
+      → rows_text (scan_under (started_definition (state_after vbs demand_events) 0) (spans_of (command_at script 0 k)) (documents_at m.store.log board)) ≡ rows_text (rows_within spans b.snapshot)
   given_text index spans command =
       ap (λ d. rows_text (scan_under d (spans_of (command_at script 0 k)) (documents_at m.store.log board))) scanned_definition
       ∙ (ap (λ o. rows_text (scan_under (Some (arc_value b.def)) (spans_of o) (documents_at m.store.log board))) command
-      ∙ ap (λ rows. rows_text (range_of spans rows)) (sym has_index.1.snapshot))
+      ∙ ap (λ rows. rows_text (rows_within spans rows)) (sym has_index.1.snapshot))
 
-  pub run_scanned : (m' : Machine) (index : List ℕ) (spans : List (List Range)) → command_at script 0 k ≡ Some (Scan index spans) → m'.store ≡ m.store → m'.index ≡ m.index → m'.seen ≡ join m.seen board
-      → m'.answers ≡ m.answers ++ record { c = 0; k = k; text = rows_text (range_of spans b.snapshot) } ∷ [] → m'.events ≡ answered_events → IsRun script (k + 1) m'
+  pub run_scanned : (m' : ReplayState) (index : List ℕ) (spans : List (List Range)) → command_at script 0 k ≡ Some (Scan index spans) → m'.store ≡ m.store → m'.index ≡ m.index → m'.seen ≡ join m.seen board
+      → m'.answers ≡ m.answers ++ record { c = 0; k = k; text = rows_text (rows_within spans b.snapshot) } ∷ [] → m'.events ≡ answered_events → IsRun script (k + 1) m'
   run_scanned m' index spans command store held seen answers events =
       let kept = kept_more script m.store.log m.answers demand_events (answer 0 k board) kept_started refl has_index.1.reached in
       let given : List ℕ → List Answered = λ text. record { c = 0; k = k; text = text } ∷ [] in
@@ -314,7 +314,7 @@ module _ (script : Script) (k : ℕ) (m : Machine) (run : IsRun script k m) (b :
         seen = seen ∙ (ap (λ v. join v board) run.seen ∙ sym (ap (λ (c : Client). c.seen) answered_client));
         size = ap length seen ∙ (pointwise_length max m.seen board (run.size ∙ sym has_index.1.reached.size) ∙ run.size);
         indexes = subst (λ (l : List Mutation). HoldsIndexes vbs l m'.index (state_after vbs answered_events).indexes) (sym (ap (λ (a : Accepted). a.log) store))
-            (subst (λ (o : Option Built). HoldsIndexes vbs m.store.log o (state_after vbs answered_events).indexes) (sym (held ∙ there)) (answered_indexes, has_index.1));
+            (subst (λ (o : Option IndexBuild). HoldsIndexes vbs m.store.log o (state_after vbs answered_events).indexes) (sym (held ∙ there)) (answered_indexes, has_index.1));
         answers = answers ∙ (ap (λ text. m.answers ++ given text) (sym (given_text index spans command)) ∙ (kept.answers_are ∙ ap (answers_of script) (sym events)));
         reached = subst (λ (es : List Event). AllByRecursion (IsReached vbs m'.store.log) es) (sym events)
             (subst (λ (l : List Mutation). AllByRecursion (IsReached vbs l) answered_events) (sym (ap (λ (a : Accepted). a.log) store)) kept.reached);

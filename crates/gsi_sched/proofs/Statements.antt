@@ -11,7 +11,7 @@ use Rattle.index_def.specs.Definitions.{definition_of}
 use Rattle.index_def.specs.Reasons.{first_reason}
 use Rattle.scan_history.specs.Ddl.{defined_field, definition_on, definition_of_text}
 use Rattle.scan_history.specs.Definitions.{Defines}
-use Rattle.gsi_sched.specs.Statement.{Makes}
+use Rattle.gsi_sched.specs.inner.Statement.{Makes}
 
 -- the laws that this rests on
 abbrev Text-Defines : Type 0

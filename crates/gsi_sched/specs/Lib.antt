@@ -1,3 +1,2 @@
 pub mod Replay
-pub mod Run
-pub mod Statement
+pub mod inner

@@ -3,7 +3,7 @@ use Rattle.std.specs.Prelude.{ℕ, suc, zero, ◌*◌, ◌==◌, false, List, []
 use Rattle.std.specs.List.{flat_map, list_any}
 use Rattle.std.specs.Option.{option_map_or}
 use Rattle.std.specs.Str.{bytes_eq}
-use Rattle.vb_store.specs.Mutations.{high_of, next_of}
+use Rattle.vb_store.specs.Mutations.{high_of, next_mutation}
 use Rattle.scan_history.specs.declared.command.Command.{Command}
 use Rattle.scan_history.specs.declared.command.Command.TheVariants.{Upsert, Delete, Ddl, Scan}
 use Rattle.scan_history.specs.declared.script.Script.{Script}
@@ -14,7 +14,7 @@ use Rattle.scan_history.specs.Answers.{command_at}
 
 -- Catching up an index publishes at the newest numbers, where its newest publication was at others.
 abbrev pub catch_up : List ℕ → Index → List Event
-catch_up high x = if bytes_eq x.board high then [] else publish x.number high ∷ []
+catch_up high x = if bytes_eq x.published high then [] else publish x.number high ∷ []
 
 -- the number of the index that a scan names
 abbrev pub scanned : List Index → ℕ
@@ -22,15 +22,15 @@ scanned [] = 0
 scanned (x ∷ xs) = x.number
 
 -- the vector of an index's newest publication
-abbrev pub board_of : ℕ → List Index → List ℕ
-board_of i [] = []
-board_of i (x ∷ xs) = if x.number == i then x.board else board_of i xs
+abbrev pub published_of : ℕ → List Index → List ℕ
+published_of i [] = []
+published_of i (x ∷ xs) = if x.number == i then x.published else published_of i xs
 
 -- A command that opens: a mutation takes the next number of its vBucket, a definition the next number of an index, and a
 -- scan has to cover what its client has seen.
 abbrev pub opening : ℕ → State → ℕ → Command → List Event
-opening n s c (Upsert id doc) = mutate c (s.client c).next (next_of n s.log id (Some doc)) ∷ []
-opening n s c (Delete id) = mutate c (s.client c).next (next_of n s.log id None) ∷ []
+opening n s c (Upsert id doc) = mutate c (s.client c).next (next_mutation n s.log id (Some doc)) ∷ []
+opening n s c (Delete id) = mutate c (s.client c).next (next_mutation n s.log id None) ∷ []
 opening n s c (Ddl text) =
     option_map_or (λ def. define c (s.client c).next (length s.indexes) false def ∷ []) (definition_of_text text) []
 opening n s c (Scan index spans) = start c (s.client c).next (scanned s.indexes) (s.client c).seen ∷ []
@@ -41,7 +41,7 @@ abbrev pub closing : ℕ → State → ℕ → Opened → List Event
 closing n s c nothing = []
 closing n s c (work indexes high) =
     flat_map (λ x. if list_any (λ i. x.number == i) indexes then catch_up (high_of n s.log) x else []) s.indexes ++ online c (s.client c).next indexes ∷ []
-closing n s c (started i demand high) = answer c (s.client c).next (board_of i s.indexes) ∷ []
+closing n s c (started i demand high) = answer c (s.client c).next (published_of i s.indexes) ∷ []
 
 -- the next action of a client: it closes what is open, else it opens its next command
 abbrev pub action_by : Script → State → ℕ → Opened → List Event

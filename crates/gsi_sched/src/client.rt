@@ -2,10 +2,10 @@ ghost use Rattle.std.specs.Prelude.{◌≡◌, ◌<◌, ◌+◌, ◌^◌, length
 ghost use Rattle.std.specs.Option.{option_copied};
 ghost use Rattle.scan_history.specs.Answers.{command_at};
 ghost use Rattle.gsi_sched.specs.Replay.{commands_of};
-ghost use Rattle.gsi_sched.specs.Run.{IsRun, IsAfter, IsPlayed};
+ghost use Rattle.gsi_sched.specs.inner.Run.{IsRun, IsAfter, IsPlayed};
 ghost use Rattle.scan_history.specs.Sound.{MayCome, made_after};
 
-use crate::machine::{Machine, create, delete, scan, upsert};
+use crate::replay_state::{ReplayState, create, delete, scan, upsert};
 use n1ql_value::Memory;
 use scan_history::{Command, Script};
 use std::alloc::Global;
@@ -35,33 +35,33 @@ pub(crate) fn command_count(script: &Script) -> u32
 fn perform(
     alloc: Global,
     script: &Script,
-    machine: &mut Machine,
+    state: &mut ReplayState,
     k: u32,
     command: &Command,
 ) -> Result<(), Memory>
     requires command { command_at script.now 0 k ≡ Some command.now }
-    requires comes { MayCome (is_some machine.old.index) command.now }
-    requires run { IsRun script.now k machine.old }
-    ensures run { OnOk result (IsRun script.now (k + 1) machine.new) }
-    ensures after { OnOk result (IsAfter script.now machine.old.events machine.new.events) }
-    ensures made { OnOk result (is_some machine.new.index ≡ made_after (is_some machine.old.index) command.now) }
+    requires comes { MayCome (is_some state.old.index) command.now }
+    requires run { IsRun script.now k state.old }
+    ensures run { OnOk result (IsRun script.now (k + 1) state.new) }
+    ensures after { OnOk result (IsAfter script.now state.old.events state.new.events) }
+    ensures made { OnOk result (is_some state.new.index ≡ made_after (is_some state.old.index) command.now) }
 {
     match command {
-        Command::Upsert { id, doc } => upsert(alloc, script, machine, k, id, doc),
-        Command::Delete { id } => delete(alloc, script, machine, k, id),
-        Command::Ddl { text } => create(alloc, script, machine, k, text),
-        Command::Scan { index, spans } => scan(alloc, script, machine, k, index, spans),
+        Command::Upsert { id, doc } => upsert(alloc, script, state, k, id, doc),
+        Command::Delete { id } => delete(alloc, script, state, k, id),
+        Command::Ddl { text } => create(alloc, script, state, k, text),
+        Command::Scan { index, spans } => scan(alloc, script, state, k, index, spans),
     }
 }
 
 /// Finds the command at place `k`, and performs it.
-fn perform_at(alloc: Global, script: &Script, machine: &mut Machine, k: u32) -> Result<(), Memory>
+fn perform_at(alloc: Global, script: &Script, state: &mut ReplayState, k: u32) -> Result<(), Memory>
     requires within { k < length (commands_of script.now 0) }
-    requires played { IsPlayed script.now k machine.old }
-    ensures { OnOk result (IsPlayed script.now (k + 1) machine.new) }
+    requires played { IsPlayed script.now k state.old }
+    ensures { OnOk result (IsPlayed script.now (k + 1) state.new) }
 {
     match command_at(script, 0, k) {
-        Some(command) => perform(alloc, script, machine, k, command),
+        Some(command) => perform(alloc, script, state, k, command),
         None => unreachable!(),
     }
 }
@@ -70,15 +70,15 @@ fn perform_at(alloc: Global, script: &Script, machine: &mut Machine, k: u32) -> 
 pub(crate) fn perform_all(
     alloc: Global,
     script: &Script,
-    machine: &mut Machine,
+    state: &mut ReplayState,
     count: u32,
 ) -> Result<(), Memory>
     requires count { count ≡ length (commands_of script.now 0) }
-    requires played { IsPlayed script.now 0 machine.old }
-    ensures { OnOk result (IsPlayed script.now count machine.new) }
+    requires played { IsPlayed script.now 0 state.old }
+    ensures { OnOk result (IsPlayed script.now count state.new) }
 {
     for k in 0..count {
-        perform_at(alloc, script, machine, k)?;
+        perform_at(alloc, script, state, k)?;
     }
     Ok(())
 }

@@ -4,23 +4,23 @@ ghost use Rattle.scan_history.specs.declared.done.End.{End as an_end};
 ghost use Rattle.scan_history.specs.Fold.{state_after};
 ghost use Rattle.scan_history.specs.Answers.{answers_of, ends_of};
 ghost use Rattle.gsi_sched.specs.Replay.{last_publications};
-ghost use Rattle.gsi_sched.specs.Run.{IsPlayed};
+ghost use Rattle.gsi_sched.specs.inner.Run.{IsPlayed};
 
-use crate::built::{Built, catch_up};
-use crate::machine::{Machine, push_publication};
+use crate::index_build::{IndexBuild, catch_up};
+use crate::replay_state::{ReplayState, push_publication};
 use n1ql_value::Memory;
 use scan_history::{End, EndList, Script};
 use std::alloc::Global;
 
 /// How the index ended.
-fn end_of(alloc: Global, built: &Built) -> Result<End, Memory>
-    ensures { IfOk result (λ end. end ≡ (record { i = 0; name = (arc_value built.now.def).name; online = true; vector = arc_value built.now.board; rows = length built.now.snapshot })) }
+fn end_of(alloc: Global, built: &IndexBuild) -> Result<End, Memory>
+    ensures { IfOk result (λ end. end ≡ (record { i = 0; name = (arc_value built.now.def).name; online = true; vector = arc_value built.now.published; rows = length built.now.snapshot })) }
 {
     Ok(End {
         i: 0,
         name: built.def.name.copy(alloc)?,
         online: true,
-        vector: built.board.copy(alloc)?,
+        vector: built.published.copy(alloc)?,
         rows: built.snapshot.len(),
     })
 }
@@ -29,21 +29,21 @@ fn end_of(alloc: Global, built: &Built) -> Result<End, Memory>
 pub(crate) fn close(
     alloc: Global,
     script: &Script,
-    machine: &mut Machine,
+    state: &mut ReplayState,
     k: u32,
 ) -> Result<EndList, Memory>
-    requires { IsPlayed script.now k machine.old }
-    ensures events { OnOk result (machine.new.events
-        ≡ machine.old.events ++ last_publications script.now.vbuckets (state_after script.now.vbuckets machine.old.events)) }
-    ensures answers { OnOk result (machine.new.answers ≡ answers_of script.now machine.new.events) }
-    ensures ends { IfOk result (λ ends. ends ≡ ends_of script.now machine.new.events) }
+    requires { IsPlayed script.now k state.old }
+    ensures events { OnOk result (state.new.events
+        ≡ state.old.events ++ last_publications script.now.vbuckets (state_after script.now.vbuckets state.old.events)) }
+    ensures answers { OnOk result (state.new.answers ≡ answers_of script.now state.new.events) }
+    ensures ends { IfOk result (λ ends. ends ≡ ends_of script.now state.new.events) }
 {
     let mut ends = EndList::new(alloc);
-    match &mut machine.index {
+    match &mut state.index {
         None => Ok(ends),
         Some(built) => {
-            let at = catch_up(alloc, built, &machine.store)?;
-            push_publication(&mut machine.events, at)?;
+            let at = catch_up(alloc, built, &state.store)?;
+            push_publication(&mut state.events, at)?;
             ends.push(end_of(alloc, built)?)?;
             Ok(ends)
         }

@@ -1,17 +1,16 @@
-//! The replay of a script: one history, in which each client's commands stand once and in order.
-//!
-//! Nothing here reads a byte of a script or writes one of a report.
+//! The replay of a script: one history, in which each client's commands stand once and in order. It parses the statements
+//! that the commands hold and makes the texts of their answers; the lines of scripts and reports are script_text's.
 #![tactic(auto)]
 
-mod built;
 mod client;
 mod ends;
-mod machine;
+mod index_build;
+mod replay_state;
 mod rows_text;
+mod script_replay;
 mod statement;
-mod whole;
 
-pub use whole::replay;
+pub use script_replay::replay;
 
 #[cfg(test)]
 mod tests;

@@ -7,11 +7,12 @@ ghost use Rattle.index_def.specs.Definitions as spec;
 ghost use Rattle.index_def.specs.Forms.{IsFormed};
 ghost use Rattle.index_def.specs.Reasons.{first_reason};
 ghost use Rattle.scan_history.specs.Ddl.{defined_field, definition_of_text};
-ghost use Rattle.gsi_sched.specs.Statement.{Makes};
+ghost use Rattle.gsi_sched.specs.inner.Statement.{Makes};
 
 use index_def::{DefFault, IndexDef, check};
 use n1ql_ast::{Create, Ddl};
-use n1ql_parse::{ParseFault, ddl, ddl_or_fault, one_ddl};
+use n1ql_parse::laws::{ddl_or_fault, one_ddl};
+use n1ql_parse::{ParseFault, ddl};
 use n1ql_value::{Memory, Text};
 use scan_history::laws::the_text_defines;
 use std::alloc::Global;

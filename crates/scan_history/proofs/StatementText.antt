@@ -18,7 +18,7 @@ use Rattle.index_def.specs.declared.definition.IndexDef.{IndexDef}
 use Rattle.scan_history.specs.Ddl.{statement_on, defined_field, definition_on, definition_of_text}
 use Rattle.scan_history.specs.Definitions.{Defines}
 use Rattle.scan_history.proofs.StatementTokens.{tokens_on, tokens_of_statement, each_of}
-use Rattle.scan_history.proofs.StatementReading.{create_on, kinds, statement}
+use Rattle.scan_history.proofs.StatementReading.{create_on, classes, statement}
 use Rattle.scan_history.proofs.StatementDefinition.{no_reason}
 
 -- a letter begins a word, and is no reserved word
@@ -72,7 +72,7 @@ reads_as text letter is =
       cut = tokens_of_statement letter (opens letter (denied (is_blank letter) first.0) first.1)
           (ap (λ x. x || is_ascii_digit letter || letter == 36) first.1) (nothing (reserved_word_of (letter ∷ [])) known.1);
       few = omega arith;
-      whole = subst (λ ks. IsStatement ks (ddl.Create (create_on letter))) (sym (kinds letter)) (statement letter);
+      whole = subst (λ ks. IsStatement ks (ddl.Create (create_on letter))) (sym (classes letter)) (statement letter);
     })
 
 -- where something is made of what there may be, that is there

@@ -9,11 +9,11 @@ use Rattle.index_def.specs.declared.definition.IndexDef.{IndexDef}
 use Rattle.n1ql_value.specs.Documents.{Documents}
 use Rattle.index_def.specs.Index.{index_of, scan_of}
 use Rattle.scan_history.specs.declared.command.Command.{Command}
-use Rattle.scan_history.specs.declared.command.Command.TheVariants.{Upsert, Delete, Ddl, Scan}
+use Rattle.scan_history.specs.declared.command.Command.TheVariants.{Scan}
 use Rattle.scan_history.specs.declared.script.Script.{Script}
 use Rattle.scan_history.specs.declared.done.Answered.{Answered}
 use Rattle.scan_history.specs.declared.done.End.{End}
-use Rattle.scan_history.specs.Events.{Event, mutate, define, publish, online, start, answer}
+use Rattle.scan_history.specs.Events.{Event, answer}
 use Rattle.scan_history.specs.Fold.{Opened, nothing, work, started, Index, State, first_state, step, state_after}
 use Rattle.scan_history.specs.RowTexts.{rows_text}
 
@@ -24,10 +24,7 @@ command_at script c k = option_and_then (λ commands. slice_get commands k) (sli
 -- the spans of a scan; another command has none
 abbrev pub spans_of : Option Command → List (List Range)
 spans_of (Some (Scan index spans)) = spans
-spans_of (Some (Upsert id doc)) = []
-spans_of (Some (Delete id)) = []
-spans_of (Some (Ddl text)) = []
-spans_of None = []
+spans_of _ = []
 
 -- the definition of index i, where it is live
 abbrev pub definition_of : ℕ → List Index → Option IndexDef
@@ -50,13 +47,9 @@ scan_under def spans docs = option_map_or (λ d. scan_of d spans docs) def []
 -- The answer of an event in the state before it, where `log` are the mutations of the whole history: the rows of the index
 -- that the spans hold, on the documents at the answer's vector.
 abbrev pub answer_at : Script → List Mutation → State → Event → List Answered
-answer_at script log s (mutate c k what) = []
-answer_at script log s (define c k i deferred def) = []
-answer_at script log s (publish i at) = []
-answer_at script log s (online c k indexes) = []
-answer_at script log s (start c k i demand) = []
 answer_at script log s (answer c k at) =
     record { c = c; k = k; text = rows_text (scan_under (started_definition s c) (spans_of (command_at script c k)) (documents_at log at)) } ∷ []
+answer_at script log s _ = []
 
 abbrev pub answers_from : Script → List Mutation → State → List Event → List Answered
 answers_from script log s [] = []
@@ -68,7 +61,7 @@ answers_of script events = answers_from script (state_after script.vbuckets even
 
 -- how an index ended: under its name, with the rows of its newest publication
 abbrev pub end_of : List Mutation → Index → End
-end_of log x = record { i = x.number; name = x.def.name; online = x.online; vector = x.board; rows = length (index_of x.def (documents_at log x.board)) }
+end_of log x = record { i = x.number; name = x.def.name; online = x.online; vector = x.published; rows = length (index_of x.def (documents_at log x.published)) }
 
 -- how the live indexes of a history ended
 unfoldable pub ends_of : Script → List Event → List End

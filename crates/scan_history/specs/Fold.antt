@@ -26,7 +26,7 @@ pub record Index : Type 0 where
   pub number : ℕ
   pub def : IndexDef
   pub online : Bool
-  pub board : List ℕ
+  pub published : List ℕ
 
 pub record State : Type 0 where
   pub log : List Mutation
@@ -37,27 +37,25 @@ pub record State : Type 0 where
 abbrev pub first_state : ℕ → State
 first_state n = record { log = []; indexes = []; client = λ c. record { opened = nothing; next = 0; seen = zeros n } }
 
+-- the mutations after an event
 abbrev pub log_step : List Mutation → Event → List Mutation
 log_step log (mutate c k what) = log ++ what ∷ []
-log_step log (define c k i deferred def) = log
-log_step log (publish i at) = log
-log_step log (online c k indexes) = log
-log_step log (start c k i demand) = log
-log_step log (answer c k at) = log
+log_step log _ = log
 
-abbrev pub published : ℕ → List ℕ → Index → Index
-published i at x = if x.number == i then record x { board = at } else x
+-- an index after a publication of index i
+abbrev pub with_publication : ℕ → List ℕ → Index → Index
+with_publication i at x = if x.number == i then record x { published = at } else x
 
+-- an index after these went online
 abbrev pub gone_online : List ℕ → Index → Index
 gone_online indexes x = if list_any (λ i. x.number == i) indexes then record x { online = true } else x
 
+-- the indexes after an event
 abbrev pub index_step : ℕ → List Index → Event → List Index
-index_step n xs (mutate c k what) = xs
-index_step n xs (define c k i deferred def) = xs ++ record { number = i; def = def; online = false; board = zeros n } ∷ []
-index_step n xs (publish i at) = map (published i at) xs
+index_step n xs (define c k i deferred def) = xs ++ record { number = i; def = def; online = false; published = zeros n } ∷ []
+index_step n xs (publish i at) = map (with_publication i at) xs
 index_step n xs (online c k indexes) = map (gone_online indexes) xs
-index_step n xs (start c k i demand) = xs
-index_step n xs (answer c k at) = xs
+index_step n xs _ = xs
 
 -- the command that is open is closed
 abbrev pub closed : Client → Client

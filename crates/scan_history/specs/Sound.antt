@@ -33,10 +33,8 @@ IsWithinBounds (Ddl text) = ⊤
 IsWithinBounds (Scan index spans) = AreSpans spans
 
 abbrev pub is_scan : Command → Bool
-is_scan (Upsert id doc) = false
-is_scan (Delete id) = false
-is_scan (Ddl text) = false
 is_scan (Scan index spans) = true
+is_scan _ = false
 
 -- the commands of all clients
 abbrev pub all_commands : Script → List Command
@@ -74,7 +72,7 @@ IsInOrder made [] = ⊤
 IsInOrder made (c ∷ cs) = MayCome made c × IsInOrder (made_after made c) cs
 
 -- the forms that are built so far: one client, the keyspace ks, at most one definition, and no scan before it
-pub record IsBuilt (script : Script) : Type 0 where
+pub record IsSupported (script : Script) : Type 0 where
   pub one_client : script.clients ≡ 1
   pub keyspace : script.keyspace ≡ codes "ks"
   pub in_order : AllByRecursion (IsInOrder false) script.commands

@@ -5,9 +5,9 @@ use Rattle.std.specs.Option.{option_map_or, is_some}
 use Rattle.std.proofs.lemmas.Bool.{leb-true}
 use Rattle.n1ql_value.specs.declared.value.Value.{Value}
 use Rattle.n1ql_value.specs.declared.value.Value.TheVariants.{Missing, Null, Bool as Flag, Int, Text, Array, Object}
-use Rattle.script_text.specs.declared.reader.member_kind.MemberKind.{MemberKind}
-use Rattle.script_text.specs.declared.reader.member_kind.MemberKind.TheVariants as kind
-use Rattle.script_text.specs.declared.reader.sizes.Sizes.{Sizes}
+use Rattle.script_text.specs.declared.reader.format.member_kind.MemberKind.{MemberKind}
+use Rattle.script_text.specs.declared.reader.format.member_kind.MemberKind.TheVariants as kind
+use Rattle.script_text.specs.declared.reader.format.sizes.Sizes.{Sizes}
 use Rattle.n1ql_value.specs.Kinds.{number_in}
 use Rattle.script_text.specs.Members.{Members, value_at}
 use Rattle.script_text.specs.Rows.{in_range, is_number_within, is_within, header_row}

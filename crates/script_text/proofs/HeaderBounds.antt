@@ -10,15 +10,15 @@ use Rattle.n1ql_value.specs.declared.value.Value.TheVariants.{Missing, Null, Boo
 use Rattle.scan_history.specs.declared.kind.Kind.{Kind}
 use Rattle.scan_history.specs.declared.kind.Kind.TheVariants as kinds
 use Rattle.scan_history.specs.Sound.{IsWithin}
-use Rattle.script_text.specs.declared.reader.header.Header.{Header}
-use Rattle.script_text.specs.declared.reader.member.Member.{Member}
-use Rattle.script_text.specs.declared.reader.member_kind.MemberKind.TheVariants as kind
-use Rattle.script_text.specs.declared.reader.sizes.Sizes.{Sizes}
+use Rattle.script_text.specs.declared.reader.script.header.Header.{Header}
+use Rattle.script_text.specs.declared.reader.format.member.Member.{Member}
+use Rattle.script_text.specs.declared.reader.format.member_kind.MemberKind.TheVariants as kind
+use Rattle.script_text.specs.declared.reader.format.sizes.Sizes.{Sizes}
 use Rattle.n1ql_value.specs.Kinds.{text_in}
 use Rattle.script_text.specs.Members.{Members, value_at, text_at, number_at}
 use Rattle.script_text.specs.Rows.{in_range, is_text_within, has_shape, has_needed, header_row, is_within}
-use Rattle.script_text.specs.Built.{is_header_built}
-use Rattle.script_text.specs.Items.{no_sizes, is_other_version, header_with, header_in, header_of, members_of, and_then}
+use Rattle.script_text.specs.Supported.{is_header_supported}
+use Rattle.script_text.specs.Items.{no_sizes, is_other_version, header_with, header_checked, header_of_line, members_of, and_then}
 use Rattle.script_text.proofs.Bounds.{both, Admits, count_bounds, needed_bounds, header_admits}
 
 abbrev text_from : List ℕ → Option Value → List ℕ
@@ -64,13 +64,13 @@ pub record HeaderFits (header : Header) : Type 0 where
   pub one_client : header.sizes.clients ≡ 1
   pub built_keyspace : header.keyspace ≡ codes "ks"
 
-header_built : (members : Members) → is_header_built members ≡ true → (text_at (codes "keyspace") (codes "ks") members ≡ codes "ks") × (number_at (codes "clients") (pos 0) members ≡ pos 1)
-unfolding is_header_built
+header_built : (members : Members) → is_header_supported members ≡ true → (text_at (codes "keyspace") (codes "ks") members ≡ codes "ks") × (number_at (codes "clients") (pos 0) members ≡ pos 1)
+unfolding is_header_supported
 header_built members e =
     let p = both _ _ e in
     ((bytes_eq-Decides (text_at (codes "keyspace") (codes "ks") members) (codes "ks")).0 p.0, (Decides-int_eq (number_at (codes "clients") (pos 0) members) (pos 1)).0 p.1)
 
-header_fits : (members : Members) → has_shape header_row members ≡ true → is_within no_sizes header_row members ≡ true → is_header_built members ≡ true → HeaderFits (header_with members)
+header_fits : (members : Members) → has_shape header_row members ≡ true → is_within no_sizes header_row members ≡ true → is_header_supported members ≡ true → HeaderFits (header_with members)
 header_fits members shape within built =
     let a = both _ _ (shape-needed header_row members shape) in
     let vbuckets = both _ _ a.1 in
@@ -97,16 +97,16 @@ header_tests false true false built made header e = cc
 header_tests false true true false made header e = cc
 header_tests false true true true made header e = (refl, refl, refl, cc)
 
-header_in-fits : (members : Members) (header : Header) → header_in members ≡ Ok header → HeaderFits header
-unfolding header_in
-header_in-fits members header e =
-    let p = header_tests (is_other_version members) (has_shape header_row members) (is_within no_sizes header_row members) (is_header_built members) (header_with members) header e in
+header_checked-fits : (members : Members) (header : Header) → header_checked members ≡ Ok header → HeaderFits header
+unfolding header_checked
+header_checked-fits members header e =
+    let p = header_tests (is_other_version members) (has_shape header_row members) (is_within no_sizes header_row members) (is_header_supported members) (header_with members) header e in
     subst HeaderFits p.3 (header_fits members p.0 p.1 p.2)
 
-after_members : (r : Result Members Kind) (header : Header) → and_then header_in r ≡ Ok header → HeaderFits header
-after_members (Ok members) header e = header_in-fits members header e
+after_members : (r : Result Members Kind) (header : Header) → and_then header_checked r ≡ Ok header → HeaderFits header
+after_members (Ok members) header e = header_checked-fits members header e
 after_members (Err kind) header e = cc
 
-pub header_of-fits : (line : List ℕ) (header : Header) → header_of line ≡ Ok header → HeaderFits header
-unfolding header_of
-header_of-fits line header e = after_members (members_of line) header e
+pub header_of_line-fits : (line : List ℕ) (header : Header) → header_of_line line ≡ Ok header → HeaderFits header
+unfolding header_of_line
+header_of_line-fits line header e = after_members (members_of line) header e

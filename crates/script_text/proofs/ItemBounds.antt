@@ -15,16 +15,16 @@ use Rattle.scan_history.specs.declared.kind.Kind.{Kind}
 use Rattle.scan_history.specs.declared.kind.Kind.TheVariants as kinds
 use Rattle.scan_history.specs.Ddl.{index_name}
 use Rattle.scan_history.specs.Sound.{IsRange, IsSpan, AreSpans, IsWithinBounds, MayCome}
-use Rattle.script_text.specs.declared.reader.form.Form.{Form}
-use Rattle.script_text.specs.declared.reader.form.Form.TheVariants.{Upsert, Delete, Ddl, Scan, Query, Client, Project, Deliver, Lose, Publish, Rewind}
-use Rattle.script_text.specs.declared.reader.item.Item.{Item}
-use Rattle.script_text.specs.declared.reader.member_kind.MemberKind.TheVariants as kind
-use Rattle.script_text.specs.declared.reader.sizes.Sizes.{Sizes}
+use Rattle.script_text.specs.declared.reader.format.form.Form.{Form}
+use Rattle.script_text.specs.declared.reader.format.form.Form.TheVariants.{Upsert, Delete, Ddl, Scan, Query, Client, Project, Deliver, Lose, Publish, Rewind}
+use Rattle.script_text.specs.declared.reader.script.item.Item.{Item}
+use Rattle.script_text.specs.declared.reader.format.member_kind.MemberKind.TheVariants as kind
+use Rattle.script_text.specs.declared.reader.format.sizes.Sizes.{Sizes}
 use Rattle.script_text.specs.Members.{Members, value_at, text_at, each_item}
-use Rattle.script_text.specs.SpanForms.{range_of, span_of, spans_of, is_span_within, are_spans_within}
+use Rattle.script_text.specs.SpanForms.{range_of_value, span_of_value, spans_of_value, is_span_within, are_spans_within}
 use Rattle.script_text.specs.Rows.{in_range, is_number_below, form_of, row_of, has_shape, has_needed, is_within}
-use Rattle.script_text.specs.Built.{is_built}
-use Rattle.script_text.specs.Items.{command_of, item_with, item_in, item_at, item_of, members_of, and_then}
+use Rattle.script_text.specs.Supported.{is_supported}
+use Rattle.script_text.specs.Items.{command_of, item_with, item_checked, item_by_form, item_of_line, members_of, and_then}
 use Rattle.script_text.proofs.Bounds.{both, Admits, count_in}
 use Rattle.script_text.proofs.HeaderBounds.{needed_text_bounds, shape-needed}
 
@@ -34,17 +34,17 @@ incl_bounds false true e = omega arith
 incl_bounds false false true = omega arith
 incl_bounds false false false = omega arith
 
-range_fits : (v : Value) → IsRange (range_of v)
+range_fits : (v : Value) → IsRange (range_of_value v)
 range_fits v = incl_bounds _ _ _
 
-ranges_fit : (ds : List Datum) → AllByRecursion IsRange (map (λ d. range_of (value_of d)) ds)
+ranges_fit : (ds : List Datum) → AllByRecursion IsRange (map (λ d. range_of_value (value_of d)) ds)
 ranges_fit [] = tt
 ranges_fit (d ∷ ds) = (range_fits (value_of d), ranges_fit ds)
 
-span_fits : (v : Value) → is_span_within v ≡ true → IsSpan (span_of v)
+span_fits : (v : Value) → is_span_within v ≡ true → IsSpan (span_of_value v)
 span_fits (Array ds) e =
     let few = leb-true (length ds) 16 (both _ _ e).0 in
-    let same : length (map (λ d. range_of (value_of d)) ds) ≡ length ds = length-map ds (λ d. range_of (value_of d)) in
+    let same : length (map (λ d. range_of_value (value_of d)) ds) ≡ length ds = length-map ds (λ d. range_of_value (value_of d)) in
     (omega arith, ranges_fit ds)
 span_fits Missing e = cc
 span_fits Null e = cc
@@ -53,15 +53,15 @@ span_fits (Int z) e = cc
 span_fits (Text t) e = cc
 span_fits (Object ps) e = cc
 
-each_span_fits : (ds : List Datum) → each_item is_span_within ds ≡ true → AllByRecursion IsSpan (map (λ d. span_of (value_of d)) ds)
+each_span_fits : (ds : List Datum) → each_item is_span_within ds ≡ true → AllByRecursion IsSpan (map (λ d. span_of_value (value_of d)) ds)
 each_span_fits [] e = tt
 each_span_fits (d ∷ ds) e = let p = both (is_span_within (value_of d)) (each_item is_span_within ds) e in (span_fits (value_of d) p.0, each_span_fits ds p.1)
 
-spans_fit : (v : Value) → are_spans_within v ≡ true → AreSpans (spans_of v)
+spans_fit : (v : Value) → are_spans_within v ≡ true → AreSpans (spans_of_value v)
 spans_fit (Array ds) e =
     let p = both (leb (length ds) 64) (each_item is_span_within ds) e in
     let few = leb-true (length ds) 64 p.0 in
-    let same : length (map (λ d. span_of (value_of d)) ds) ≡ length ds = length-map ds (λ d. span_of (value_of d)) in
+    let same : length (map (λ d. span_of_value (value_of d)) ds) ≡ length ds = length-map ds (λ d. span_of_value (value_of d)) in
     (omega arith, each_span_fits ds p.1)
 spans_fit Missing e = cc
 spans_fit Null e = cc
@@ -70,7 +70,7 @@ spans_fit (Int z) e = cc
 spans_fit (Text t) e = cc
 spans_fit (Object ps) e = cc
 
-spans_found : (sizes : Sizes) (found : Option Value) → Admits sizes kind.Spans found → AreSpans (option_map_or spans_of found ([] ∷ []))
+spans_found : (sizes : Sizes) (found : Option Value) → Admits sizes kind.Spans found → AreSpans (option_map_or spans_of_value found ([] ∷ []))
 unfolding in_range
 spans_found sizes None e = (omega arith, ((omega arith, tt), tt))
 spans_found sizes (Some v) e = spans_fit v e
@@ -107,8 +107,8 @@ is_not false e = refl
 
 -- what a form says, by its row and by what is built
 form_fits : (sizes : Sizes) (defined : Bool) (form : Form) (members : Members) (item : Item) → has_needed (row_of form) members ≡ true
-    → is_within sizes (row_of form) members ≡ true → is_built defined form members ≡ true → ok_or (option_map (item_with members) (command_of form members)) kinds.Unbuilt ≡ Ok item → ItemFits sizes defined item
-unfolding row_of is_within is_built command_of
+    → is_within sizes (row_of form) members ≡ true → is_supported defined form members ≡ true → ok_or (option_map (item_with members) (command_of form members)) kinds.Unbuilt ≡ Ok item → ItemFits sizes defined item
+unfolding row_of is_within is_supported command_of
 form_fits sizes defined Upsert members item stands within built e =
     let s = both _ _ stands in
     let w = both _ _ within in
@@ -165,22 +165,22 @@ item_tests true false built made item e = cc
 item_tests true true false made item e = cc
 item_tests true true true made item e = (refl, refl, refl, e)
 
-item_in-fits : (sizes : Sizes) (defined : Bool) (form : Form) (members : Members) (item : Item) → item_in sizes defined form members ≡ Ok item → ItemFits sizes defined item
-unfolding item_in
-item_in-fits sizes defined form members item e =
-    let p = item_tests (has_shape (row_of form) members) (is_within sizes (row_of form) members) (is_built defined form members)
+item_checked-fits : (sizes : Sizes) (defined : Bool) (form : Form) (members : Members) (item : Item) → item_checked sizes defined form members ≡ Ok item → ItemFits sizes defined item
+unfolding item_checked
+item_checked-fits sizes defined form members item e =
+    let p = item_tests (has_shape (row_of form) members) (is_within sizes (row_of form) members) (is_supported defined form members)
     (ok_or (option_map (item_with members) (command_of form members)) kinds.Unbuilt) item e in
     form_fits sizes defined form members item (shape-needed (row_of form) members p.0) p.1 p.2 p.3
 
 after_form : (sizes : Sizes) (defined : Bool) (members : Members) (found : Option Form) (item : Item)
-    → and_then (λ form. item_in sizes defined form members) (ok_or found kinds.Shape) ≡ Ok item → ItemFits sizes defined item
-after_form sizes defined members (Some form) item e = item_in-fits sizes defined form members item e
+    → and_then (λ form. item_checked sizes defined form members) (ok_or found kinds.Shape) ≡ Ok item → ItemFits sizes defined item
+after_form sizes defined members (Some form) item e = item_checked-fits sizes defined form members item e
 after_form sizes defined members None item e = cc
 
-after_members : (sizes : Sizes) (defined : Bool) (r : Result Members Kind) (item : Item) → and_then (item_at sizes defined) r ≡ Ok item → ItemFits sizes defined item
+after_members : (sizes : Sizes) (defined : Bool) (r : Result Members Kind) (item : Item) → and_then (item_by_form sizes defined) r ≡ Ok item → ItemFits sizes defined item
 after_members sizes defined (Ok members) item e = after_form sizes defined members (form_of members) item e
 after_members sizes defined (Err kind) item e = cc
 
-pub item_of-fits : (sizes : Sizes) (defined : Bool) (line : List ℕ) (item : Item) → item_of sizes defined line ≡ Ok item → ItemFits sizes defined item
-unfolding item_of
-item_of-fits sizes defined line item e = after_members sizes defined (members_of line) item e
+pub item_of_line-fits : (sizes : Sizes) (defined : Bool) (line : List ℕ) (item : Item) → item_of_line sizes defined line ≡ Ok item → ItemFits sizes defined item
+unfolding item_of_line
+item_of_line-fits sizes defined line item e = after_members sizes defined (members_of line) item e

@@ -2,9 +2,9 @@
 use Rattle.std.proofs.Common.{◌≡◌, ℕ, List, [], ◌∷◌, ◌++◌, Bool, false, Result, Ok, Err, refl, sym, ap, ap₂, ◌∙◌, append_assoc}
 use Rattle.std.specs.Prelude.{◌||◌}
 use Rattle.scan_history.specs.declared.kind.Kind.{Kind}
-use Rattle.script_text.specs.declared.reader.item.Item.{Item}
-use Rattle.script_text.specs.declared.reader.sizes.Sizes.{Sizes}
-use Rattle.script_text.specs.Items.{item_of}
+use Rattle.script_text.specs.declared.reader.script.item.Item.{Item}
+use Rattle.script_text.specs.declared.reader.format.sizes.Sizes.{Sizes}
+use Rattle.script_text.specs.Items.{item_of_line}
 use Rattle.script_text.specs.Scripts.{is_ddl, ahead, and_then_lines, items_from}
 
 ahead-none : (r : Result (List Item) (ℕ × Kind)) → r ≡ ahead [] r
@@ -24,7 +24,7 @@ ahead-more done item (Err line) = refl
 
 -- one turn over the lines
 pub items_from-turn : (whole : Result (List Item) (ℕ × Kind)) (sizes : Sizes) (done new : List Item) (defined defines : Bool) (line : ℕ × List ℕ) (left lines : List (ℕ × List ℕ)) (item : Item)
-    → whole ≡ ahead done (items_from sizes defined left) → left ≡ line ∷ lines → item_of sizes defined line.1 ≡ Ok item
+    → whole ≡ ahead done (items_from sizes defined left) → left ≡ line ∷ lines → item_of_line sizes defined line.1 ≡ Ok item
     → defines ≡ is_ddl item.command → new ≡ done ++ item ∷ [] → whole ≡ ahead new (items_from sizes (defined || defines) lines)
 items_from-turn whole sizes done new defined defines line left lines item e steps says ddl push =
     e ∙ (ap (λ (ls : List (ℕ × List ℕ)). ahead done (items_from sizes defined ls)) steps

@@ -3,14 +3,14 @@ use Rattle.std.proofs.Common.{◌≡◌, ℕ, List, [], ◌∷◌, Bool, true, f
 use Rattle.std.specs.Prelude.{⊤, Result, Ok, Err, ◌*◌, nat_lt, count_by, if◌then◌else◌}
 use Rattle.scan_history.specs.declared.kind.Kind.{Kind}
 use Rattle.scan_history.specs.declared.what.What.TheVariants.{Input, Lines, Product, Scans}
-use Rattle.script_text.specs.declared.reader.header.Header.{Header}
-use Rattle.script_text.specs.declared.reader.item.Item.{Item}
+use Rattle.script_text.specs.declared.reader.script.header.Header.{Header}
+use Rattle.script_text.specs.declared.reader.script.item.Item.{Item}
 use Rattle.scan_history.specs.declared.script.Script.{Script}
-use Rattle.script_text.specs.declared.reader.script_fault.ScriptFault.{ScriptFault}
-use Rattle.script_text.specs.declared.reader.script_fault.ScriptFault.TheVariants.{Line, TooLarge, Memory}
+use Rattle.script_text.specs.declared.reader.script.script_fault.ScriptFault.{ScriptFault}
+use Rattle.script_text.specs.declared.reader.script.script_fault.ScriptFault.TheVariants.{Line, TooLarge, Memory}
 use Rattle.script_text.specs.Reading.{ReadsAs}
-use Rattle.script_text.specs.Items.{header_of}
-use Rattle.script_text.specs.Scripts.{Outcome, script, bad, too_large, items_from, is_scan_item, script_with, outcome_with, outcome_after, outcome_behind, outcome_of}
+use Rattle.script_text.specs.Items.{header_of_line}
+use Rattle.script_text.specs.Scripts.{Outcome, script, bad, too_large, items_from, is_scan_item, script_with, outcome_in_limits, outcome_with_commands, outcome_with_header, outcome_of}
 
 -- what passed a limit, where something did
 abbrev IsNoInput : Outcome → Type 0
@@ -25,22 +25,22 @@ of_limits false true c header items = λ e. absurd (cc)
 of_limits false false true header items = λ e. absurd (cc)
 of_limits false false false header items = tt
 
-of_items : (header : Header) (items : List Item) → IsNoInput (outcome_with header items)
-unfolding outcome_with
+of_items : (header : Header) (items : List Item) → IsNoInput (outcome_in_limits header items)
+unfolding outcome_in_limits
 of_items header items =
     of_limits (nat_lt 65536 (length items)) (nat_lt 4194304 (header.sizes.vbuckets * length items)) (nat_lt 1024 (count_by is_scan_item items)) header items
 
-of_result : (header : Header) (r : Result (List Item) (ℕ × Kind)) → IsNoInput (outcome_after header r)
+of_result : (header : Header) (r : Result (List Item) (ℕ × Kind)) → IsNoInput (outcome_with_commands header r)
 of_result header (Ok items) = of_items header items
 of_result header (Err line) = tt
 
-of_header : (n : ℕ) (lines : List (ℕ × List ℕ)) (r : Result Header Kind) → IsNoInput (outcome_behind n lines r)
+of_header : (n : ℕ) (lines : List (ℕ × List ℕ)) (r : Result Header Kind) → IsNoInput (outcome_with_header n lines r)
 of_header n lines (Ok header) = of_result header (items_from header.sizes false lines)
 of_header n lines (Err kind) = tt
 
 of_lines : (lines : List (ℕ × List ℕ)) → IsNoInput (outcome_of lines)
 of_lines [] = tt
-of_lines (line ∷ lines) = of_header line.0 lines (header_of line.1)
+of_lines (line ∷ lines) = of_header line.0 lines (header_of_line line.1)
 
 -- the reader answers as the lines do, so not that the input is too long
 pub no_input_limit : (lines : List (ℕ × List ℕ)) (result : Result Script ScriptFault) → ReadsAs (outcome_of lines) result → (limit : ℕ) → ¬ (result ≡ Err (TooLarge Input limit))

@@ -5,7 +5,7 @@ use Rattle.std.proofs.lemmas.Bool.{ne_eqb, eqb-true}
 use Rattle.std.proofs.lemmas.List.{length-map}
 use Rattle.std.proofs.lemmas.List.FromFn.{length-range_with_len}
 use Rattle.scan_history.specs.declared.command.Command.{Command}
-use Rattle.script_text.specs.declared.reader.item.Item.{Item}
+use Rattle.script_text.specs.declared.reader.script.item.Item.{Item}
 use Rattle.script_text.specs.Scripts.{commands_by, lists_of}
 
 abbrev pub commands_in : List Item → List Command

@@ -6,7 +6,7 @@ use Rattle.std.proofs.lemmas.List.{map-append}
 use Rattle.std.proofs.lemmas.List.Elements.{filter-append}
 use Rattle.std.proofs.lemmas.List.FromFn.{map-range_with_len_more}
 use Rattle.scan_history.specs.declared.command.Command.{Command}
-use Rattle.script_text.specs.declared.reader.item.Item.{Item}
+use Rattle.script_text.specs.declared.reader.script.item.Item.{Item}
 use Rattle.script_text.specs.Scripts.{commands_by, lists_of}
 
 -- one line more, of this client or of another

@@ -3,7 +3,7 @@ use Rattle.std.proofs.Common.{◌≡◌, ℕ, ◌+◌, ◌<◌, ◌≤◌, Bool,
 use Rattle.std.specs.Str.{bytes_eq}
 use Rattle.std.proofs.lemmas.List.{at_drop_more, at_drop_all}
 use Rattle.n1ql_value.specs.declared.value.Value.{Value}
-use Rattle.script_text.specs.declared.reader.member.Member.{Member}
+use Rattle.script_text.specs.declared.reader.format.member.Member.{Member}
 use Rattle.script_text.specs.Rows.{spelling, has_kind, stands_in}
 
 -- the member of the row at a place, and those after it

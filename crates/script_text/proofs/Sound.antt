@@ -10,16 +10,16 @@ use Rattle.scan_history.specs.declared.command.Command.TheVariants.{Upsert, Dele
 use Rattle.scan_history.specs.declared.kind.Kind.{Kind}
 use Rattle.scan_history.specs.declared.script.Script.{Script}
 use Rattle.scan_history.specs.declared.what.What.TheVariants.{Lines, Product, Scans}
-use Rattle.scan_history.specs.Sound.{IsWithinBounds, made_after, IsInOrder, is_scan, IsSound, IsBuilt}
-use Rattle.script_text.specs.declared.reader.header.Header.{Header}
-use Rattle.script_text.specs.declared.reader.item.Item.{Item}
-use Rattle.script_text.specs.declared.reader.script_fault.ScriptFault.{ScriptFault}
-use Rattle.script_text.specs.declared.reader.sizes.Sizes.{Sizes}
-use Rattle.script_text.specs.Items.{header_of, item_of}
+use Rattle.scan_history.specs.Sound.{IsWithinBounds, made_after, IsInOrder, is_scan, IsSound, IsSupported}
+use Rattle.script_text.specs.declared.reader.script.header.Header.{Header}
+use Rattle.script_text.specs.declared.reader.script.item.Item.{Item}
+use Rattle.script_text.specs.declared.reader.script.script_fault.ScriptFault.{ScriptFault}
+use Rattle.script_text.specs.declared.reader.format.sizes.Sizes.{Sizes}
+use Rattle.script_text.specs.Items.{header_of_line, item_of_line}
 use Rattle.script_text.specs.Reading.{ReadsAs}
-use Rattle.script_text.specs.Scripts.{script, too_large, is_ddl, ahead, and_then_lines, items_from, commands_by, lists_of, script_with, is_scan_item, outcome_with, outcome_after, outcome_behind, outcome_of}
-use Rattle.script_text.proofs.HeaderBounds.{HeaderFits, header_of-fits}
-use Rattle.script_text.proofs.ItemBounds.{ItemFits, item_of-fits}
+use Rattle.script_text.specs.Scripts.{script, too_large, is_ddl, ahead, and_then_lines, items_from, commands_by, lists_of, script_with, is_scan_item, outcome_in_limits, outcome_with_commands, outcome_with_header, outcome_of}
+use Rattle.script_text.proofs.HeaderBounds.{HeaderFits, header_of_line-fits}
+use Rattle.script_text.proofs.ItemBounds.{ItemFits, item_of_line-fits}
 use Rattle.script_text.proofs.ListBounds.{commands_in, lists_all, lists_few, lists_pass, lists_of-length}
 
 -- each client is one of those that there are, each command is within its bounds, and they come in order
@@ -65,8 +65,8 @@ items_fit : (sizes : Sizes) (defined : Bool) (lines : List (ℕ × List ℕ)) (i
 items_fit sizes defined [] items e =
     let same : [] ≡ items = cc in subst (ItemsFit sizes defined) same (record { clients = tt; bounds = tt; in_order = tt })
 items_fit sizes defined (line ∷ lines) items e =
-    line_cases sizes defined line.0 (item_of sizes defined line.1) (λ item. items_from sizes (defined || is_ddl item.command) lines) items
-    (λ item. item_of-fits sizes defined line.1 item) (λ item. items_fit sizes (defined || is_ddl item.command) lines) e
+    line_cases sizes defined line.0 (item_of_line sizes defined line.1) (λ item. items_from sizes (defined || is_ddl item.command) lines) items
+    (λ item. item_of_line-fits sizes defined line.1 item) (λ item. items_fit sizes (defined || is_ddl item.command) lines) e
 
 -- where there is one client, its commands are those of all lines
 all_own : (items : List Item) → AllByRecursion (λ item. item.client < 1) items → commands_by 0 items ≡ commands_in items
@@ -86,7 +86,7 @@ one_list clients items e few order =
     subst P (sym e) (own, tt)
 
 Good : Script → Type 0
-Good read = IsSound read × IsBuilt read
+Good read = IsSound read × IsSupported read
 
 scan_cases : (b : Bool) (c : Command) (i : Item) (cs : List Command) (is : List Item) → length cs ≡ length is → length (cond b (c ∷ cs) cs) ≡ length (cond b (i ∷ is) is)
 scan_cases true c i cs is e = omega arith
@@ -133,26 +133,26 @@ limit_tests false true scans made found e = cc
 limit_tests false false true made found e = cc
 limit_tests false false false made found e = (refl, refl, refl, cc)
 
-outcome_with-good : (header : Header) (items : List Item) (found : Script) → HeaderFits header → ItemsFit header.sizes false items → outcome_with header items ≡ script found → Good found
-unfolding outcome_with
-outcome_with-good header items found fits all e =
+outcome_in_limits-good : (header : Header) (items : List Item) (found : Script) → HeaderFits header → ItemsFit header.sizes false items → outcome_in_limits header items ≡ script found → Good found
+unfolding outcome_in_limits
+outcome_in_limits-good header items found fits all e =
     let p = limit_tests (ltb 65536 (length items)) (ltb 4194304 (header.sizes.vbuckets * length items)) (ltb 1024 (count_by is_scan_item items)) (script_with header items) found e in
     subst Good p.3 (script_good header items fits all (ltb-false 65536 (length items) p.0) (ltb-false 4194304 (header.sizes.vbuckets * length items) p.1) (ltb-false 1024 (count_by is_scan_item items) p.2))
 
-outcome_after-good : (header : Header) (r : Result (List Item) (ℕ × Kind)) (found : Script) → HeaderFits header
-    → ((items : List Item) → r ≡ Ok items → ItemsFit header.sizes false items) → outcome_after header r ≡ script found → Good found
-outcome_after-good header (Err line) found fits all e = cc
-outcome_after-good header (Ok items) found fits all e = outcome_with-good header items found fits (all items refl) e
+outcome_with_commands-good : (header : Header) (r : Result (List Item) (ℕ × Kind)) (found : Script) → HeaderFits header
+    → ((items : List Item) → r ≡ Ok items → ItemsFit header.sizes false items) → outcome_with_commands header r ≡ script found → Good found
+outcome_with_commands-good header (Err line) found fits all e = cc
+outcome_with_commands-good header (Ok items) found fits all e = outcome_in_limits-good header items found fits (all items refl) e
 
-outcome_behind-good : (n : ℕ) (lines : List (ℕ × List ℕ)) (r : Result Header Kind) (found : Script) → ((header : Header) → r ≡ Ok header → HeaderFits header)
-    → outcome_behind n lines r ≡ script found → Good found
-outcome_behind-good n lines (Err kind) found fits e = cc
-outcome_behind-good n lines (Ok header) found fits e =
-    outcome_after-good header (items_from header.sizes false lines) found (fits header refl) (items_fit header.sizes false lines) e
+outcome_with_header-good : (n : ℕ) (lines : List (ℕ × List ℕ)) (r : Result Header Kind) (found : Script) → ((header : Header) → r ≡ Ok header → HeaderFits header)
+    → outcome_with_header n lines r ≡ script found → Good found
+outcome_with_header-good n lines (Err kind) found fits e = cc
+outcome_with_header-good n lines (Ok header) found fits e =
+    outcome_with_commands-good header (items_from header.sizes false lines) found (fits header refl) (items_fit header.sizes false lines) e
 
 outcome_of-good : (lines : List (ℕ × List ℕ)) (found : Script) → outcome_of lines ≡ script found → Good found
 outcome_of-good [] found e = cc
-outcome_of-good (line ∷ lines) found e = outcome_behind-good line.0 lines (header_of line.1) found (header_of-fits line.1) e
+outcome_of-good (line ∷ lines) found e = outcome_with_header-good line.0 lines (header_of_line line.1) found (header_of_line-fits line.1) e
 
 -- what is read
 pub read_sound : (lines : List (ℕ × List ℕ)) (r : Result Script ScriptFault) → ReadsAs (outcome_of lines) r → IfOk r (λ found. IsSound found)
@@ -160,7 +160,7 @@ unfolding Good
 read_sound lines (Ok found) e = (outcome_of-good lines found e).0
 read_sound lines (Err fault) e = tt
 
-pub read_built : (lines : List (ℕ × List ℕ)) (r : Result Script ScriptFault) → ReadsAs (outcome_of lines) r → IfOk r (λ found. IsBuilt found)
+pub read_built : (lines : List (ℕ × List ℕ)) (r : Result Script ScriptFault) → ReadsAs (outcome_of lines) r → IfOk r (λ found. IsSupported found)
 unfolding Good
 read_built lines (Ok found) e = (outcome_of-good lines found e).1
 read_built lines (Err fault) e = tt

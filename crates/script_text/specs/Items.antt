@@ -13,16 +13,16 @@ use Rattle.scan_history.specs.declared.command.Command.{Command}
 use Rattle.scan_history.specs.declared.command.Command.TheVariants as command
 use Rattle.scan_history.specs.declared.kind.Kind.{Kind}
 use Rattle.scan_history.specs.declared.kind.Kind.TheVariants.{Syntax, Number, Version, Shape, Range as OutOfRange, Unbuilt}
-use Rattle.script_text.specs.declared.reader.form.Form.{Form}
-use Rattle.script_text.specs.declared.reader.form.Form.TheVariants.{Upsert, Delete, Ddl, Scan, Query, Client, Project, Deliver, Lose, Publish, Rewind}
-use Rattle.script_text.specs.declared.reader.header.Header.{Header}
-use Rattle.script_text.specs.declared.reader.item.Item.{Item}
-use Rattle.script_text.specs.declared.reader.sizes.Sizes.{Sizes}
+use Rattle.script_text.specs.declared.reader.format.form.Form.{Form}
+use Rattle.script_text.specs.declared.reader.format.form.Form.TheVariants.{Upsert, Delete, Ddl, Scan, Query, Client, Project, Deliver, Lose, Publish, Rewind}
+use Rattle.script_text.specs.declared.reader.script.header.Header.{Header}
+use Rattle.script_text.specs.declared.reader.script.item.Item.{Item}
+use Rattle.script_text.specs.declared.reader.format.sizes.Sizes.{Sizes}
 use Rattle.n1ql_value.specs.Kinds.{object_in}
 use Rattle.script_text.specs.Members.{Members, value_at, text_at, number_at}
-use Rattle.script_text.specs.SpanForms.{spans_of}
+use Rattle.script_text.specs.SpanForms.{spans_of_value}
 use Rattle.script_text.specs.Rows.{form_of, row_of, header_row, has_shape, is_within}
-use Rattle.script_text.specs.Built.{is_header_built, is_built}
+use Rattle.script_text.specs.Supported.{is_header_supported, is_supported}
 
 -- what comes of what a reading gave
 abbrev pub and_then : {A B : Type 0} → (A → Result B Kind) → Result A Kind → Result B Kind
@@ -60,20 +60,20 @@ is_other_version members = not (int_eq (number_at (codes "gsi") (pos 1) members)
 abbrev pub no_sizes : Sizes
 no_sizes = record { vbuckets = 0; clients = 0 }
 
-unfoldable pub header_in : Members → Result Header Kind
-header_in members =
+unfoldable pub header_checked : Members → Result Header Kind
+header_checked members =
     if is_other_version members then Err Version
     else if not (has_shape header_row members) then Err Shape
     else if not (is_within no_sizes header_row members) then Err OutOfRange
-    else if not (is_header_built members) then Err Unbuilt
+    else if not (is_header_supported members) then Err Unbuilt
     else Ok (header_with members)
 
-unfoldable pub header_of : List ℕ → Result Header Kind
-header_of line = and_then header_in (members_of line)
+unfoldable pub header_of_line : List ℕ → Result Header Kind
+header_of_line line = and_then header_checked (members_of line)
 
 -- the spans of a scan: one without ranges, where nothing is said
 abbrev pub spans_at : Members → List (List Range)
-spans_at members = option_map_or spans_of (value_at (codes "spans") members) ([] ∷ [])
+spans_at members = option_map_or spans_of_value (value_at (codes "spans") members) ([] ∷ [])
 
 -- the command that a line of a form gives
 unfoldable pub command_of : Form → Members → Option Command
@@ -94,15 +94,15 @@ abbrev pub item_with : Members → Command → Item
 item_with members c = record { client = count_at (codes "c") 0 members; command = c }
 
 -- a line of a form, where `defined` tells whether a ddl line came before it
-unfoldable pub item_in : Sizes → Bool → Form → Members → Result Item Kind
-item_in sizes defined form members =
+unfoldable pub item_checked : Sizes → Bool → Form → Members → Result Item Kind
+item_checked sizes defined form members =
     if not (has_shape (row_of form) members) then Err Shape
     else if not (is_within sizes (row_of form) members) then Err OutOfRange
-    else if not (is_built defined form members) then Err Unbuilt
+    else if not (is_supported defined form members) then Err Unbuilt
     else ok_or (option_map (item_with members) (command_of form members)) Unbuilt
 
-abbrev pub item_at : Sizes → Bool → Members → Result Item Kind
-item_at sizes defined members = and_then (λ form. item_in sizes defined form members) (ok_or (form_of members) Shape)
+abbrev pub item_by_form : Sizes → Bool → Members → Result Item Kind
+item_by_form sizes defined members = and_then (λ form. item_checked sizes defined form members) (ok_or (form_of members) Shape)
 
-unfoldable pub item_of : Sizes → Bool → List ℕ → Result Item Kind
-item_of sizes defined line = and_then (item_at sizes defined) (members_of line)
+unfoldable pub item_of_line : Sizes → Bool → List ℕ → Result Item Kind
+item_of_line sizes defined line = and_then (item_by_form sizes defined) (members_of line)

@@ -6,7 +6,8 @@ pub mod Members
 pub mod SparseVectors
 pub mod SpanForms
 pub mod Rows
-pub mod Built
+pub mod Supported
 pub mod Items
 pub mod Scripts
 pub mod Reading
+pub mod inner

@@ -32,12 +32,8 @@ first_text (a ∷ answers) = a.text
 
 -- each answer of a history takes one of the answers
 abbrev pub answers_taken : Event → ℕ
-answers_taken (mutate c k what) = 0
-answers_taken (define c k i deferred def) = 0
-answers_taken (publish i at) = 0
-answers_taken (online c k indexes) = 0
-answers_taken (start c k i demand) = 0
 answers_taken (answer c k at) = 1
+answers_taken _ = 0
 
 -- the lines of events, whose answers have these texts
 abbrev pub event_lines : List Event → List Answered → List ℕ

@@ -4,14 +4,14 @@ use Rattle.std.specs.List.{list_all}
 use Rattle.std.specs.Option.{option_map_or, option_or, is_some}
 use Rattle.std.specs.Str.{bytes_eq}
 use Rattle.n1ql_value.specs.declared.value.Value.{Value}
-use Rattle.script_text.specs.declared.reader.form.Form.{Form}
-use Rattle.script_text.specs.declared.reader.form.Form.TheVariants.{Upsert, Delete, Ddl, Scan, Query, Client, Project, Deliver, Lose, Publish, Rewind}
-use Rattle.script_text.specs.declared.reader.member.Member.{Member}
-use Rattle.script_text.specs.declared.reader.member_kind.MemberKind.{MemberKind}
-use Rattle.script_text.specs.declared.reader.member_kind.MemberKind.TheVariants as kind
-use Rattle.script_text.specs.declared.reader.name.Name.{Name}
-use Rattle.script_text.specs.declared.reader.name.Name.TheVariants as name
-use Rattle.script_text.specs.declared.reader.sizes.Sizes.{Sizes}
+use Rattle.script_text.specs.declared.reader.format.form.Form.{Form}
+use Rattle.script_text.specs.declared.reader.format.form.Form.TheVariants.{Upsert, Delete, Ddl, Scan, Query, Client, Project, Deliver, Lose, Publish, Rewind}
+use Rattle.script_text.specs.declared.reader.format.member.Member.{Member}
+use Rattle.script_text.specs.declared.reader.format.member_kind.MemberKind.{MemberKind}
+use Rattle.script_text.specs.declared.reader.format.member_kind.MemberKind.TheVariants as kind
+use Rattle.script_text.specs.declared.reader.format.name.Name.{Name}
+use Rattle.script_text.specs.declared.reader.format.name.Name.TheVariants as name
+use Rattle.script_text.specs.declared.reader.format.sizes.Sizes.{Sizes}
 use Rattle.n1ql_value.specs.Kinds.{number_in, text_in}
 use Rattle.script_text.specs.Members.{Members, flag_in, is_word, value_at, text_at, each_member}
 use Rattle.script_text.specs.SparseVectors.{is_vector, is_vector_below}

@@ -2,18 +2,18 @@
 use Rattle.std.specs.Prelude.{ℕ, ◌*◌, ◌==◌, nat_lt, List, [], ◌∷◌, ◌++◌, length, map, count_by, Bool, true, false, ◌||◌, Result, Ok, Err, if◌then◌else◌}
 use Rattle.std.specs.List.{filter, range_with_len}
 use Rattle.scan_history.specs.declared.command.Command.{Command}
-use Rattle.scan_history.specs.declared.command.Command.TheVariants.{Upsert, Delete, Ddl, Scan}
+use Rattle.scan_history.specs.declared.command.Command.TheVariants.{Ddl}
 use Rattle.scan_history.specs.declared.kind.Kind.{Kind}
 use Rattle.scan_history.specs.declared.kind.Kind.TheVariants.{Shape}
 use Rattle.scan_history.specs.declared.script.Script.{Script}
 use Rattle.scan_history.specs.declared.what.What.{What}
 use Rattle.scan_history.specs.declared.what.What.TheVariants.{Lines, Product, Scans}
 use Rattle.scan_history.specs.Sound.{is_scan}
-use Rattle.script_text.specs.declared.reader.header.Header.{Header}
-use Rattle.script_text.specs.declared.reader.item.Item.{Item}
-use Rattle.script_text.specs.declared.reader.sizes.Sizes.{Sizes}
+use Rattle.script_text.specs.declared.reader.script.header.Header.{Header}
+use Rattle.script_text.specs.declared.reader.script.item.Item.{Item}
+use Rattle.script_text.specs.declared.reader.format.sizes.Sizes.{Sizes}
 use Rattle.script_text.specs.Input.{lines_of, numbered_after}
-use Rattle.script_text.specs.Items.{header_of, item_of}
+use Rattle.script_text.specs.Items.{header_of_line, item_of_line}
 
 -- a script; or the number of the first bad line, and what is wrong with it; or what passed its limit
 pub data Outcome : Type 0 where
@@ -22,10 +22,8 @@ pub data Outcome : Type 0 where
   too_large : What → ℕ → Outcome
 
 abbrev pub is_ddl : Command → Bool
-is_ddl (Upsert id doc) = false
-is_ddl (Delete id) = false
 is_ddl (Ddl text) = true
-is_ddl (Scan index spans) = false
+is_ddl _ = false
 
 -- these items, and then the others
 abbrev pub ahead : List Item → Result (List Item) (ℕ × Kind) → Result (List Item) (ℕ × Kind)
@@ -41,7 +39,7 @@ and_then_lines n (Err kind) after = Err (n, kind)
 abbrev pub items_from : Sizes → Bool → List (ℕ × List ℕ) → Result (List Item) (ℕ × Kind)
 items_from sizes defined [] = Ok []
 items_from sizes defined (line ∷ lines) =
-    and_then_lines line.0 (item_of sizes defined line.1) (λ item. items_from sizes (defined || is_ddl item.command) lines)
+    and_then_lines line.0 (item_of_line sizes defined line.1) (λ item. items_from sizes (defined || is_ddl item.command) lines)
 
 -- the commands of a client, in the order of its lines
 abbrev pub commands_by : ℕ → List Item → List Command
@@ -65,25 +63,25 @@ unfoldable pub is_scan_item : Item → Bool
 is_scan_item item = is_scan item.command
 
 -- the script, within its limits
-unfoldable pub outcome_with : Header → List Item → Outcome
-outcome_with header items =
+unfoldable pub outcome_in_limits : Header → List Item → Outcome
+outcome_in_limits header items =
     if nat_lt 65536 (length items) then too_large Lines 65536
     else if nat_lt 4194304 (header.sizes.vbuckets * length items) then too_large Product 4194304
     else if nat_lt 1024 (count_by is_scan_item items) then too_large Scans 1024
     else script (script_with header items)
 
-abbrev pub outcome_after : Header → Result (List Item) (ℕ × Kind) → Outcome
-outcome_after header (Ok items) = outcome_with header items
-outcome_after header (Err line) = bad line.0 line.1
+abbrev pub outcome_with_commands : Header → Result (List Item) (ℕ × Kind) → Outcome
+outcome_with_commands header (Ok items) = outcome_in_limits header items
+outcome_with_commands header (Err line) = bad line.0 line.1
 
-abbrev pub outcome_behind : ℕ → List (ℕ × List ℕ) → Result Header Kind → Outcome
-outcome_behind n lines (Ok header) = outcome_after header (items_from header.sizes false lines)
-outcome_behind n lines (Err kind) = bad n kind
+abbrev pub outcome_with_header : ℕ → List (ℕ × List ℕ) → Result Header Kind → Outcome
+outcome_with_header n lines (Ok header) = outcome_with_commands header (items_from header.sizes false lines)
+outcome_with_header n lines (Err kind) = bad n kind
 
 -- all lines that aren't blank, each with its number: the header, and then commands
 abbrev pub outcome_of : List (ℕ × List ℕ) → Outcome
 outcome_of [] = bad 1 Shape
-outcome_of (line ∷ lines) = outcome_behind line.0 lines (header_of line.1)
+outcome_of (line ∷ lines) = outcome_with_header line.0 lines (header_of_line line.1)
 
 -- the script that an input is
 unfoldable pub script_of : List ℕ → Outcome

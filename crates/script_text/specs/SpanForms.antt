@@ -52,14 +52,14 @@ range_with members =
 abbrev pub no_members : Members
 no_members = []
 
-abbrev pub range_of : Value → Range
-range_of v = range_with (unwrap_or (object_in v) no_members)
+abbrev pub range_of_value : Value → Range
+range_of_value v = range_with (unwrap_or (object_in v) no_members)
 
 abbrev pub no_items : List Datum
 no_items = []
 
-abbrev pub span_of : Value → List Range
-span_of v = map (λ d. range_of (value_of d)) (unwrap_or (array_in v) no_items)
+abbrev pub span_of_value : Value → List Range
+span_of_value v = map (λ d. range_of_value (value_of d)) (unwrap_or (array_in v) no_items)
 
-abbrev pub spans_of : Value → List (List Range)
-spans_of v = map (λ d. span_of (value_of d)) (unwrap_or (array_in v) no_items)
+abbrev pub spans_of_value : Value → List (List Range)
+spans_of_value v = map (λ d. span_of_value (value_of d)) (unwrap_or (array_in v) no_items)

@@ -18,8 +18,8 @@ is_decimal name =
 abbrev pub with_digit : ℕ → ℕ → ℕ
 with_digit n b = n * 10 + (b - 48)
 
-unfoldable pub number_of : List ℕ → ℕ
-number_of digits = fold with_digit 0 digits
+unfoldable pub number_of_digits : List ℕ → ℕ
+number_of_digits digits = fold with_digit 0 digits
 
 abbrev pub is_entry : List ℕ → Value → Bool
 is_entry name v = is_decimal name && is_some (number_in v)
@@ -30,7 +30,7 @@ is_vector v = option_map_or (each_member is_entry) (object_in v) false
 
 -- a vBucket below n, and a number that isn't negative
 abbrev pub is_entry_below : ℕ → List ℕ → Value → Bool
-is_entry_below n name v = nat_lt (number_of name) n && option_map_or (int_le (pos 0)) (number_in v) false
+is_entry_below n name v = nat_lt (number_of_digits name) n && option_map_or (int_le (pos 0)) (number_in v) false
 
 abbrev pub is_vector_below : ℕ → Value → Bool
 is_vector_below n v = option_map_or (each_member (is_entry_below n)) (object_in v) false

@@ -6,8 +6,6 @@ mod events;
 mod high;
 mod lines;
 mod reader;
-#[cfg(test)]
-mod tests;
 mod writing;
 
 pub use reader::{ScriptFault, read_script};

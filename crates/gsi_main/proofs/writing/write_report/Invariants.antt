@@ -2,7 +2,7 @@ use Rattle.std.proofs.Common.{length, take, ◌≡◌, ◌-◌, ◌≤◌}
 use Rattle.std.specs.Io.KnownBytes.{Appends}
 use Rattle.gsi_main.proofs.writing.write_report.Given as goal
 
--- the front that is done was appended, and no write failed
+-- the prefix that is done was appended, and no write failed
 abbrev pub invariant-pieces : goal.invariant-pieces
 invariant-pieces g l = record {
   in_range : l.done ≤ length l.report;

@@ -7,7 +7,7 @@ use Rattle.gsi_sched.proofs.client.perform_at.Goals as goal
 
 pub perform-requires-clause-comes : goal.perform-requires-clause-comes
 perform-requires-clause-comes c =
-    (order_at c.args.script.now c.args.k c.args.machine.now c.in-Some.command.now c.requires.played (sym c.command_at.ensures ∙ ap option_copied c.in-Some.is)).0
+    (order_at c.args.script.now c.args.k c.args.state.now c.in-Some.command.now c.requires.played (sym c.command_at.ensures ∙ ap option_copied c.in-Some.is)).0
 
 pub unreachable-requires : goal.unreachable-requires
 unreachable-requires c =
@@ -16,5 +16,5 @@ unreachable-requires c =
 pub returns : goal.returns
 returns c =
     on_ok_three c.perform.result
-    (played_more c.args.script.now c.args.k c.args.machine.now c.perform.new.machine c.in-Some.command.now c.requires.played (sym c.command_at.ensures ∙ ap option_copied c.in-Some.is))
+    (played_more c.args.script.now c.args.k c.args.state.now c.perform.new.state c.in-Some.command.now c.requires.played (sym c.command_at.ensures ∙ ap option_copied c.in-Some.is))
     c.perform.ensures.run c.perform.ensures.after c.perform.ensures.made

@@ -1,20 +1,20 @@
 use Rattle.std.proofs.Common.{ℕ, List, [], ◌∷◌, ◌++◌, ap, ◌∙◌, subst}
 use Rattle.scan_history.specs.declared.done.End.{End}
-use Rattle.gsi_sched.specs.Run.{StandsFor}
+use Rattle.gsi_sched.specs.inner.Run.{StandsFor}
 use Rattle.gsi_sched.proofs.Plays.{closed_none, closed_answers, closed_ends}
 use Rattle.gsi_sched.proofs.ends.close.Goals as goal
 
 pub returns-in-None-clause-ends : goal.returns-in-None-clause-ends
-returns-in-None-clause-ends c = c.new-ends.ensures ∙ (closed_none c.args.script.now c.args.k c.args.machine.now c.requires.run c.in-None.is).1
+returns-in-None-clause-ends c = c.new-ends.ensures ∙ (closed_none c.args.script.now c.args.k c.args.state.now c.requires.run c.in-None.is).1
 
 pub returns-in_ok-push-in-Some-clause-answers : goal.returns-in_ok-push-in-Some-clause-answers
 returns-in_ok-push-in-Some-clause-answers c =
-    closed_answers c.args.script.now c.args.k c.args.machine.now c.in_ok-at-in-Some.at c.push_publication.new.events c.requires.run c.in_ok-push_publication-in-Some.ensures
+    closed_answers c.args.script.now c.args.k c.args.state.now c.in_ok-at-in-Some.at c.push_publication.new.events c.requires.run c.in_ok-push_publication-in-Some.ensures
 
 pub returns-in_ok-push-in-Some-clause-ends : goal.returns-in_ok-push-in-Some-clause-ends
 returns-in_ok-push-in-Some-clause-ends c =
     let script = c.args.script.now in
-    let m = c.args.machine.now in
+    let m = c.args.state.now in
     let end = c.in_ok-end_of-in-Some.field-0 in
     c.in_ok-push-in-Some.ensures.ok
     ∙ (ap (λ (ends : List End). ends ++ end ∷ []) c.new-ends.ensures

@@ -3,7 +3,7 @@ use Rattle.std.specs.Prelude.{IsSome}
 use Rattle.n1ql_parse.specs.Faults.{IsDdlFaultOf}
 use Rattle.n1ql_parse.specs.Readings.{IsReadingDdl}
 use Rattle.scan_history.specs.Ddl.{defined_field}
-use Rattle.gsi_sched.specs.Statement.{Makes}
+use Rattle.gsi_sched.specs.inner.Statement.{Makes}
 use Rattle.gsi_sched.proofs.Statements.{is_creation, makes, only_creations, no_fault}
 use Rattle.gsi_sched.proofs.statement.creation.Goals as goal
 

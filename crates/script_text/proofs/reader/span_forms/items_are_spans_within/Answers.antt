@@ -1,6 +1,0 @@
-use Rattle.script_text.specs.SpanForms.{is_span_within}
-use Rattle.script_text.proofs.Entries.{item_answer}
-use Rattle.script_text.proofs.reader.span_forms.items_are_spans_within.Goals as goal
-
-pub returns : goal.returns
-returns c = item_answer is_span_within c.as_slice.result.now c.args.items.now c.each_is_span_within.result c.each_is_span_within.ensures c.as_slice.ensures

@@ -1,0 +1,143 @@
+ghost use Rattle.std.specs.Prelude.{◌≡◌, ℕ, IfOk, Err, count_by, false};
+ghost use Rattle.scan_history.specs.Sound.{IsSound, IsSupported};
+ghost use Rattle.script_text.specs.Items.{header_of_line};
+ghost use Rattle.script_text.specs.Reading.{ReadsAs};
+ghost use Rattle.script_text.specs.Scripts.{script_of, outcome_of, outcome_with_header, outcome_with_commands, outcome_in_limits, items_from, script_with, is_scan_item};
+
+use crate::reader::script::header::{Header, read_header};
+use crate::reader::script::input::{Line, Lines};
+use crate::reader::script::item::Item;
+use crate::reader::script::items::items_from;
+use crate::reader::script::line_fault::LineFault;
+use crate::reader::script::lists::lists_of;
+use crate::reader::script::script_fault::ScriptFault;
+use n1ql_value::{ListOf, Memory};
+use scan_history::{Command, Kind, Script, What};
+use std::alloc::Global;
+
+/// How many lines a script has at most beside the header and blank ones.
+const LINES_LIMIT: u64 = 65_536;
+
+/// How much the vBuckets times those lines are at most.
+const PRODUCT_LIMIT: u64 = 4_194_304;
+
+/// How many scans and queries a script has at most.
+const SCANS_LIMIT: u64 = 1_024;
+
+/// The script that an input is: a JSON object (RFC 8259) a line, the header first. Blank lines are numbered and skipped.
+///
+/// # Errors
+///
+/// `Line` with the first bad line and the first kind of what is wrong with it, in the order of `Kind`; line 1 with `Shape`
+/// where there is no header. `TooLarge` where no line is bad, with the first of the limits on lines, on their product with
+/// the vBuckets and on scans that is passed, never with the input's. `Memory` where memory ran out.
+#[tactic(auto, unfolding(crate::specs::Scripts::script_of))]
+pub fn read_script(alloc: Global, input: &[u8]) -> Result<Script, ScriptFault>
+    ensures gives { ReadsAs (script_of input.now) result }
+    ensures sound { IfOk result (λ script. IsSound script) }
+    ensures built { IfOk result (λ script. IsSupported script) }
+    ensures limits { (limit : ℕ) → ¬ (result ≡ Err (ScriptFault.TooLarge What.Input limit)) }
+{
+    read_lines(alloc, Lines::new(input))
+}
+
+fn read_lines(alloc: Global, mut lines: Lines<'_>) -> Result<Script, ScriptFault>
+    ensures { ReadsAs (outcome_of lines.entry) result }
+{
+    match lines.next() {
+        Some(line) => read_header_line(alloc, line, lines),
+        None => Err(ScriptFault::Line {
+            line: 1,
+            kind: Kind::Shape,
+        }),
+    }
+}
+
+/// The script with this line for its header.
+fn read_header_line(alloc: Global, line: Line<'_>, lines: Lines<'_>) -> Result<Script, ScriptFault>
+    ensures { ReadsAs (outcome_with_header line.entry.number lines.entry (header_of_line line.entry.bytes.now)) result }
+{
+    match read_header(alloc, line.bytes) {
+        Ok(header) => read_command_lines(alloc, header, lines),
+        Err(LineFault::Bad(kind)) => Err(ScriptFault::Line {
+            line: line.number,
+            kind,
+        }),
+        Err(LineFault::Memory) => Err(ScriptFault::Memory),
+    }
+}
+
+fn read_command_lines(
+    alloc: Global,
+    header: Header,
+    lines: Lines<'_>,
+) -> Result<Script, ScriptFault>
+    ensures { ReadsAs (outcome_with_commands header (items_from header.sizes false lines.entry)) result }
+{
+    let items = items_from(alloc, header.sizes, lines)?;
+    within_limits(alloc, header, items)
+}
+
+#[tactic(auto, unfolding(crate::specs::Scripts::outcome_in_limits))]
+fn within_limits(alloc: Global, header: Header, items: ListOf<Item>) -> Result<Script, ScriptFault>
+    ensures { ReadsAs (outcome_in_limits header items) result }
+{
+    let lines = items.len() as u64;
+    if lines > LINES_LIMIT {
+        return Err(ScriptFault::TooLarge {
+            what: What::Lines,
+            limit: LINES_LIMIT,
+        });
+    }
+    if u64::from(header.sizes.vbuckets) * lines > PRODUCT_LIMIT {
+        return Err(ScriptFault::TooLarge {
+            what: What::Product,
+            limit: PRODUCT_LIMIT,
+        });
+    }
+    if scans_in(items.as_slice()) > SCANS_LIMIT {
+        return Err(ScriptFault::TooLarge {
+            what: What::Scans,
+            limit: SCANS_LIMIT,
+        });
+    }
+    Ok(assemble(alloc, header, items)?)
+}
+
+fn scans_in(items: &[Item]) -> u64
+    ensures { result ≡ count_by is_scan_item items.now }
+{
+    let mut scans = 0;
+    for item in items {
+        if is_scan_item(item) {
+            scans += 1;
+        }
+    }
+    scans
+}
+
+#[tactic(auto, unfolding(crate::specs::Scripts::is_scan_item))]
+fn is_scan_item(item: &Item) -> bool
+    ensures { result ≡ is_scan_item item.now }
+{
+    matches!(item.command, Command::Scan { .. })
+}
+
+fn assemble(alloc: Global, header: Header, items: ListOf<Item>) -> Result<Script, Memory>
+    ensures { IfOk result (λ script. script ≡ script_with header items) }
+{
+    let Header {
+        sizes,
+        workers,
+        batch,
+        keyspace,
+    } = header;
+    Ok(Script {
+        vbuckets: sizes.vbuckets,
+        clients: sizes.clients,
+        workers,
+        batch,
+        keyspace,
+        commands: lists_of(alloc, sizes.clients, items)?,
+    })
+}
