@@ -701,22 +701,6 @@ fn the_innermost_name_counts(rt: HostRuntime) -> Result<(), Memory> {
     Ok(())
 }
 
-// Without a document there is no META.
-#[test]
-fn meta_of_no_document_is_missing(rt: HostRuntime) -> Result<(), Memory> {
-    let alloc = rt.alloc();
-    let id: Option<&Text> = None;
-    let doc = Value::Missing;
-    let keys = Vals::new(alloc);
-    let env = Env {
-        id,
-        doc: &doc,
-        keys: &keys,
-    };
-    assert!(rt; gives(alloc, &Scope::Outermost(&env), &Tree::Meta(true), &Missing)?);
-    Ok(())
-}
-
 /// Conditions, and the operands of their ANDs.
 static CONJUNCTIONS: [(Tree, &[Tree]); 3] = [
     (
