@@ -1,151 +1,155 @@
 use index_def::{DefFault, IndexDef, Reason, check};
-use n1ql_ast::{Create, Ddl, Expr, Key};
-use n1ql_expr::same;
-use n1ql_parse::ddl;
-use n1ql_value::{Memory, Op};
+use n1ql_ast::{Create, Expr, Exprs, Key, Keys, Names};
+use n1ql_value::{Memory, Text, Value};
+use sqlite_items::Boxed;
 use std::alloc::Global;
 
-/// The creation that a statement is. Another text ends the test too.
-fn creation(alloc: Global, statement: &str) -> Result<Create, Memory> {
-    match ddl(alloc, statement) {
-        Ok(Ddl::Create(create)) => Ok(create),
-        _ => Err(Memory),
+/// A field of the document.
+fn field(alloc: Global, name: &str) -> Result<Expr, Memory> {
+    let name = Text::of(alloc, name)?;
+    Ok(Expr::Field(Boxed::new(alloc, Expr::Doc)?, name))
+}
+
+/// So many keys, each a field.
+fn fields(alloc: Global, count: u8) -> Result<Keys, Memory> {
+    let mut keys = Keys::new(alloc);
+    for _ in 0..count {
+        keys.push(Key::Plain(field(alloc, "x")?))?;
+    }
+    Ok(keys)
+}
+
+/// `ALL ARRAY v FOR v IN t END`.
+fn array_key(alloc: Global) -> Result<Key, Memory> {
+    let var = Text::of(alloc, "v")?;
+    let item = Expr::Var(Text::of(alloc, "v")?);
+    let over = field(alloc, "t")?;
+    Ok(Key::Each {
+        distinct: false,
+        item,
+        var,
+        over,
+        when: None,
+    })
+}
+
+/// So many array keys.
+fn arrays(alloc: Global, count: u8) -> Result<Keys, Memory> {
+    let mut keys = Keys::new(alloc);
+    for _ in 0..count {
+        keys.push(array_key(alloc)?)?;
+    }
+    Ok(keys)
+}
+
+/// The one key.
+fn key(alloc: Global, e: Expr) -> Result<Keys, Memory> {
+    let mut keys = Keys::new(alloc);
+    keys.push(Key::Plain(e))?;
+    Ok(keys)
+}
+
+/// An object of one pair.
+fn options(alloc: Global, name: &str, value: Value) -> Result<Expr, Memory> {
+    let mut names = Names::new(alloc);
+    names.push(Text::of(alloc, name)?)?;
+    let mut values = Exprs::new(alloc);
+    values.push(Expr::Const(value))?;
+    Ok(Expr::Build(names, values))
+}
+
+/// `CREATE INDEX ix ON ks(keys) WHERE filter WITH options`.
+fn statement(
+    names: (Text, Text),
+    keys: Keys,
+    filter: Option<Expr>,
+    options: Option<Expr>,
+) -> Create {
+    Create {
+        name: names.0,
+        keyspace: names.1,
+        keys,
+        filter,
+        options,
+        primary: false,
     }
 }
 
-/// Why a statement defines no index, or that it defines one.
-fn reason_of(alloc: Global, statement: &str) -> Result<Option<Reason>, Memory> {
-    let create = creation(alloc, statement)?;
-    match check(alloc, &create) {
+/// The names of the index and of the keyspace.
+fn names(alloc: Global) -> Result<(Text, Text), Memory> {
+    Ok((Text::of(alloc, "ix")?, Text::of(alloc, "ks")?))
+}
+
+/// The reason why a statement defines no index.
+fn reason_of(alloc: Global, c: &Create) -> Result<Option<Reason>, Memory> {
+    match check(alloc, c) {
         Ok(_) => Ok(None),
         Err(DefFault::Bad(reason)) => Ok(Some(reason)),
         Err(DefFault::Memory) => Err(Memory),
     }
 }
 
-/// Statements, and the first reason against each.
-static STATEMENTS: [(&str, Option<Reason>); 14] = [
-    ("CREATE INDEX ix ON ks(x)", None),
-    ("CREATE INDEX ix ON ks(META().id)", None),
-    ("CREATE PRIMARY INDEX ON ks", None),
-    (
-        "CREATE INDEX ix ON ks(a,b,c,d,e,f,g,h,i,j,k,l,m,n,o,p)",
-        None,
-    ),
-    (
-        "CREATE INDEX ix ON ks(a,b,c,d,e,f,g,h,i,j,k,l,m,n,o,1,META(y).id)",
-        Some(Reason::TooManyKeys),
-    ),
-    ("CREATE INDEX ix ON ks(x, ALL ARRAY v FOR v IN t END)", None),
-    (
-        "CREATE INDEX ix ON ks(ALL ARRAY v FOR v IN t END, DISTINCT ARRAY v FOR v IN u END, 1)",
-        Some(Reason::TwoArrays),
-    ),
-    (
-        "CREATE INDEX ix ON ks(x, 1 + 2) WHERE META(y).id = 'a'",
-        Some(Reason::ConstantKey),
-    ),
-    (
-        "CREATE INDEX ix ON ks(META(y).id)",
-        Some(Reason::ConstantKey),
-    ),
-    (
-        "CREATE INDEX ix ON ks(x) WHERE META(y).id = 'a' WITH {'defer_build': 1}",
-        Some(Reason::MetaAlias),
-    ),
-    ("CREATE INDEX ix ON ks(x) WHERE META(ks).id = 'a'", None),
-    ("CREATE INDEX ix ON ks(x) WITH {'defer_build': TRUE}", None),
-    (
-        "CREATE INDEX ix ON ks(x) WITH {'defer_build': 1}",
-        Some(Reason::With),
-    ),
-    (
-        "CREATE INDEX ix ON ks(x) WITH {'num_replica': TRUE}",
-        Some(Reason::With),
-    ),
-];
-
-fn statements() -> &'static [(&'static str, Option<Reason>)] {
-    STATEMENTS.as_slice()
+/// The reason why keys alone make no index.
+fn reason_of_keys(alloc: Global, keys: Keys) -> Result<Option<Reason>, Memory> {
+    let c = statement(names(alloc)?, keys, None, None);
+    reason_of(alloc, &c)
 }
 
 #[test]
-fn the_first_reason_is_told(rt: HostRuntime) -> Result<(), Memory> {
-    for (statement, want) in statements() {
-        let reason = reason_of(rt.alloc(), *statement)?;
-        assert_eq!(rt; reason, *want);
-    }
+fn too_many_keys(rt: HostRuntime) -> Result<(), Memory> {
+    let alloc = rt.alloc();
+    let sixteen = reason_of_keys(alloc, fields(alloc, 16)?)?;
+    assert_eq!(rt; sixteen, None);
+    let seventeen = reason_of_keys(alloc, fields(alloc, 17)?)?;
+    assert_eq!(rt; seventeen, Some(Reason::TooManyKeys));
     Ok(())
 }
 
-/// Whether a key is an array key with ALL and a WHEN that is a comparison by `>`.
-fn has_when(key: Option<&Key>) -> bool {
-    match key {
-        Some(
-            Key::Each {
-                distinct: false,
-                when: Some(Expr::Two(Op::Gt, _, _)),
-                ..
-            },
-        ) => true,
-        _ => false,
-    }
-}
-
-/// How many keys and conjuncts a definition has, whether it is primary, and whether its second key has that WHEN.
-fn outline(def: &IndexDef) -> (usize, usize, bool, bool) {
-    (
-        def.keys.len(),
-        def.filter.len(),
-        def.primary,
-        has_when(def.keys.get(1)),
-    )
-}
-
-/// The outline of what a statement defines.
-fn outline_of(alloc: Global, statement: &str) -> Result<(usize, usize, bool, bool), Memory> {
-    let create = creation(alloc, statement)?;
-    match check(alloc, &create) {
-        Ok(def) => Ok(outline(&def)),
-        Err(_) => Err(Memory),
-    }
-}
-
 #[test]
-fn a_definition_has_the_keys_and_the_conjuncts_of_its_statement(
-    rt: HostRuntime,
-) -> Result<(), Memory> {
-    let partial = "CREATE INDEX ix ON ks(x, ALL ARRAY v FOR v IN t WHEN v > 1 END) WHERE a AND b";
-    assert_eq!(rt; outline_of(rt.alloc(), partial)?, (2, 2, false, true));
-    let primary = "CREATE PRIMARY INDEX ON ks";
-    assert_eq!(rt; outline_of(rt.alloc(), primary)?, (1, 0, true, false));
+fn two_array_keys(rt: HostRuntime) -> Result<(), Memory> {
+    let alloc = rt.alloc();
+    let one = reason_of_keys(alloc, arrays(alloc, 1)?)?;
+    assert_eq!(rt; one, None);
+    let two = reason_of_keys(alloc, arrays(alloc, 2)?)?;
+    assert_eq!(rt; two, Some(Reason::TwoArrays));
     Ok(())
 }
 
-/// Whether two keys are plain ones on the same expression.
-fn are_same(a: Option<&Key>, b: Option<&Key>) -> bool {
-    match (a, b) {
-        (Some(Key::Plain(a)), Some(Key::Plain(b))) => same(a, b),
-        _ => false,
-    }
-}
-
-/// Whether the first key of a definition is that of its statement.
-fn is_copied(alloc: Global, statement: &str) -> Result<bool, Memory> {
-    let create = creation(alloc, statement)?;
-    match check(alloc, &create) {
-        Ok(def) => Ok(are_same(def.keys.get(0), create.keys.get(0))),
-        Err(_) => Err(Memory),
-    }
-}
-
-// A function, a list, an object, a CASE and a collection.
 #[test]
-fn a_key_is_copied_whole(rt: HostRuntime) -> Result<(), Memory> {
-    let statement =
-        "CREATE INDEX ix ON ks(CASE WHEN ABS(a) > 1 THEN [b, {'c': d}] ELSE ANY v IN e SATISFIES v END END)";
-    let copied = is_copied(rt.alloc(), statement)?;
-    assert!(rt; copied);
+fn a_constant_key(rt: HostRuntime) -> Result<(), Memory> {
+    let alloc = rt.alloc();
+    let number = reason_of_keys(alloc, key(alloc, Expr::Const(Value::Int(1)))?)?;
+    assert_eq!(rt; number, Some(Reason::ConstantKey));
+    let meta = reason_of_keys(alloc, key(alloc, Expr::MetaOf(true))?)?;
+    assert_eq!(rt; meta, None);
+    Ok(())
+}
+
+/// The reason why an index on a field with an option is none.
+fn reason_of_option(alloc: Global, name: &str, value: Value) -> Result<Option<Reason>, Memory> {
+    let options = options(alloc, name, value)?;
+    let c = with_options(alloc, options)?;
+    reason_of(alloc, &c)
+}
+
+/// `CREATE INDEX ix ON ks(x) WITH options`.
+fn with_options(alloc: Global, options: Expr) -> Result<Create, Memory> {
+    let keys = fields(alloc, 1)?;
+    let names = names(alloc)?;
+    Ok(statement(names, keys, None, Some(options)))
+}
+
+#[test]
+fn another_option(rt: HostRuntime) -> Result<(), Memory> {
+    let alloc = rt.alloc();
+    for (name, value, want) in [
+        ("defer_build", Value::Bool(true), None),
+        ("defer_build", Value::Int(1), Some(Reason::With)),
+        ("num_replica", Value::Bool(true), Some(Reason::With)),
+    ] {
+        let reason = reason_of_option(alloc, name, value)?;
+        assert_eq!(rt; reason, want);
+    }
     Ok(())
 }
 
