@@ -45,6 +45,10 @@ max_keys = 16
 abbrev pub max_id_bytes : ℕ
 max_id_bytes = 250
 
+-- the greatest number of bytes of a keyspace's name
+abbrev pub max_keyspace_bytes : ℕ
+max_keyspace_bytes = 100
+
 -- the greatest number of tokens of a statement
 abbrev pub max_tokens : ℕ
 max_tokens = 512

@@ -33,6 +33,9 @@ pub const MAX_KEYS: usize = 16;
 /// The greatest number of bytes of a document's id.
 pub const MAX_ID_BYTES: usize = 250;
 
+/// The greatest number of bytes of a keyspace's name.
+pub const MAX_KEYSPACE_BYTES: usize = 100;
+
 /// The greatest number of tokens of a statement.
 pub const MAX_TOKENS: usize = 512;
 

@@ -78,6 +78,13 @@ impl Pairs {
         found(&self.entries, name)
     }
 
+    /// The value under a name, taken out of the pairs, None where no pair has it.
+    pub fn take(self, name: &str) -> Option<Value>
+        ensures { option_map datum_of result ≡ under_name name.now self }
+    {
+        taken(self.entries, name)
+    }
+
     /// Puts a value under a name: adds the pair, or replaces the value that was there.
     ///
     /// # Errors
@@ -123,6 +130,19 @@ fn found<'a>(entries: &'a [(Text, Value)], name: &str) -> Option<&'a Value>
     let at = place_of(entries, name);
     if has_name(entries, at, name) {
         Some(&entries[at].1)
+    } else {
+        None
+    }
+}
+
+/// The value under a name, out of the pairs that hold it.
+fn taken(mut entries: Vec<(Text, Value)>, name: &str) -> Option<Value>
+    requires { NamesGrow (map pair_of entries.items) }
+    ensures { option_map datum_of result ≡ under_name name.now (map pair_of entries.items) }
+{
+    let at = place_of(&entries, name);
+    if has_name(&entries, at, name) {
+        Some(entries.swap_remove(at).1)
     } else {
         None
     }

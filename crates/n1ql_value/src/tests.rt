@@ -107,6 +107,17 @@ fn the_order_of_values(rt: HostRuntime) -> Result<(), Memory> {
     Ok(())
 }
 
+// What is under a name is taken out; nothing where no pair has it.
+#[test]
+fn a_value_is_taken_out(rt: HostRuntime) -> Result<(), Memory> {
+    let alloc = rt.alloc();
+    let entries = [("b", 2), ("a", 1), ("c", 3)];
+    let taken = object(alloc, &entries)?.take("b");
+    assert!(rt; matches!(taken, Some(Value::Int(2))));
+    assert!(rt; object(alloc, &entries)?.take("d").is_none());
+    Ok(())
+}
+
 // Keys place by place, where a place past the keys reads MISSING; then the fewer keys; then the id.
 #[test]
 fn the_order_of_rows(rt: HostRuntime) -> Result<(), Memory> {
