@@ -11,3 +11,6 @@ pub mod Equality
 pub mod Conjunction
 pub mod Statements
 pub mod FormedStatements
+pub mod Selections
+pub mod ResolvedSelections
+pub mod FormedSelections

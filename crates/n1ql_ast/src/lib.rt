@@ -1,4 +1,4 @@
-//! Expressions of N1QL: their trees, their grammar and the resolution of names. Statements on indexes: their trees.
+//! Expressions of N1QL: their trees, their grammar and the resolution of names. SELECT and statements on indexes: their trees.
 #![tactic(auto)]
 
 mod agg;
@@ -10,10 +10,15 @@ mod key;
 mod keyword;
 pub mod laws;
 mod names;
+mod order;
 mod resolution;
 mod scope;
+mod select_resolution;
+mod selection;
+mod term;
 mod test;
 mod token_class;
+mod unnest;
 mod unresolved_expr;
 
 pub use agg::Agg;
@@ -24,11 +29,13 @@ pub use expr::{Expr, Exprs};
 pub use key::{Key, Keys};
 pub use keyword::Keyword;
 pub use names::{Names, copy_names};
+pub use order::{Order, Orders};
 pub use resolution::resolve;
 pub use scope::Scope;
+pub use select_resolution::resolve_select;
+pub use selection::{Select, Selection, UnresolvedSelect};
+pub use term::{Term, Terms};
 pub use test::Test;
 pub use token_class::TokenClass;
+pub use unnest::{Unnest, Unnests};
 pub use unresolved_expr::{UnresolvedExpr, UnresolvedExprs};
-
-#[cfg(test)]
-mod tests;

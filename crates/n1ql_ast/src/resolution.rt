@@ -140,9 +140,9 @@ fn part_inside(
     expr
 }
 
-/// Parts of an unresolved expression.
+/// Parts of an unresolved expression, or others in one scope.
 #[cycle(resolve)]
-fn parts(
+pub fn parts(
     alloc: Global,
     unresolved_exprs: &[UnresolvedExpr],
     scope: &mut Scope,
