@@ -44,11 +44,7 @@ fn keys_of_document(alloc: Global, def: &IndexDef, id: &Text, doc: &Value) -> Re
     ensures { IfOk result (λ rows. rows ≡ spec.keys_of def.now id.now doc.now) }
 {
     let keys = Vals::new(alloc);
-    let env = Env {
-        id: Some(&*id),
-        doc: &*doc,
-        keys: &keys,
-    };
+    let env = Env::of_document(&*id, &*doc, &keys);
     rows_in(alloc, def, id, &Scope::on(&env))
 }
 

@@ -175,3 +175,39 @@ fn an_array_key_between_others(rt: HostRuntime) -> Result<(), Memory> {
     assert!(rt; has_key(&rows, 1, 2, &Value::Int(5)));
     Ok(())
 }
+
+const AN_ARRAY_KEY_FIRST: &str = "CREATE INDEX ix ON ks(ALL ARRAY v FOR v IN t WHEN v > 1 END, x)";
+
+/// The numbers 1, 2 and 3.
+fn one_to_three(alloc: Global) -> Result<Vals, Memory> {
+    let mut values = Vals::new(alloc);
+    for n in 1..4 {
+        values.push(Value::Int(n))?;
+    }
+    Ok(values)
+}
+
+/// `{"t": [1, 2, 3], "x": 5}`.
+fn with_numbers(alloc: Global) -> Result<Value, Memory> {
+    let mut pairs = Pairs::new(alloc);
+    pairs.put(Text::of(alloc, "t")?, Value::Array(one_to_three(alloc)?))?;
+    pairs.put(Text::of(alloc, "x")?, Value::Int(5))?;
+    Ok(Value::Object(pairs))
+}
+
+/// Whether the row at a place has the keys n and 5.
+fn is_row_with_five(rows: &Rows, row: usize, n: i64) -> bool {
+    has_key(rows, row, 0, &Value::Int(n)) && has_key(rows, row, 1, &Value::Int(5))
+}
+
+// WHEN passes over 1, and the leading key is that of an element.
+#[test]
+fn an_array_key_before_another(rt: HostRuntime) -> Result<(), Memory> {
+    let alloc = rt.alloc();
+    let def = index_on(alloc, AN_ARRAY_KEY_FIRST)?;
+    let rows = rows_of(alloc, &def, Some(with_numbers(alloc)?))?;
+    assert_eq!(rt; rows.len(), 2);
+    assert!(rt; is_row_with_five(&rows, 0, 2));
+    assert!(rt; is_row_with_five(&rows, 1, 3));
+    Ok(())
+}

@@ -1,5 +1,6 @@
 pub mod Alike
 pub mod Around
+pub mod Bindings
 pub mod ByCases
 pub mod Elements
 pub mod Parts

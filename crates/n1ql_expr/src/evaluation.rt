@@ -40,10 +40,10 @@ pub fn evaluate<'a>(alloc: Global, e: &'a Expr, scope: &'a Scope<'a>) -> Result<
 {
     match e {
         Expr::Const(value) => Ok(Operand::Held(value)),
-        Expr::Doc => Ok(Operand::Held(scope.base().doc)),
-        Expr::MetaOf(own) => Ok(Operand::Made(meta(alloc, *own, scope.base().id)?)),
+        Expr::Doc => Ok(Operand::Held(scope.base.doc)),
+        Expr::MetaOf(own) => Ok(Operand::Made(meta(alloc, *own, scope.base.id)?)),
         Expr::Var(name) => Ok(Operand::or_missing(scope.bound_to(name))),
-        Expr::Key(at) => Ok(Operand::or_missing(scope.base().key(*at))),
+        Expr::Key(at) => Ok(Operand::or_missing(scope.base.key(*at))),
         Expr::Field(x, name) => evaluate(alloc, x.get(), scope)?.field(alloc, name),
         Expr::Place(x, at) => {
             let value = evaluate(alloc, x.get(), scope)?;
@@ -165,11 +165,7 @@ fn passing<'a>(
 {
     match when {
         Some(when) => {
-            let inner = Scope::Inside {
-                outer: &*scope,
-                name: &*name,
-                value: &*value,
-            };
+            let inner = Scope::inside(&*scope, &*name, &*value);
             Ok(is_true(evaluate(alloc, &*when, &inner)?.value()))
         }
         None => Ok(true),
@@ -304,11 +300,7 @@ fn listed<'a>(
     let mut made = Vals::new(alloc);
     for value in items {
         if passing(alloc, when, name, value, scope)? {
-            let inner = Scope::Inside {
-                outer: &*scope,
-                name: &*name,
-                value: &*value,
-            };
+            let inner = Scope::inside(&*scope, &*name, &*value);
             let found = evaluate(alloc, &*item, &inner)?.into_value(alloc)?;
             push_given(&mut made, found)?;
         }
@@ -341,11 +333,7 @@ fn first<'a>(
             &*scope,
         )? {
             Some(value) => {
-                let inner = Scope::Inside {
-                    outer: &*scope,
-                    name: &*name,
-                    value: &*value,
-                };
+                let inner = Scope::inside(&*scope, &*name, &*value);
                 Ok(Operand::Made(evaluate(alloc, &*item, &inner)?.into_value(alloc)?))
             }
             None => Ok(Operand::Made(Value::Missing)),

@@ -7,9 +7,7 @@ use Rattle.n1ql_value.specs.Datum.{datum_of}
 use Rattle.n1ql_value.specs.Kinds.{is_true, or_missing}
 use Rattle.n1ql_ast.specs.Evaluation.{elements_given, inside, passes, value_at_element, value_of}
 use Rattle.n1ql_ast.specs.Forms.{IsWellFormed, held_if_any, is_well_formed}
-use Rattle.n1ql_expr.specs.declared.scope.Scope.TheViews.{Inside}
 use Rattle.n1ql_expr.specs.Scopes.{environment_of, operand_value}
-use Rattle.n1ql_expr.proofs.Around.{around}
 use Rattle.n1ql_expr.proofs.Elements.{over_array, any_found, next_case, values_count}
 use Rattle.n1ql_expr.proofs.Parts.{weight, weight_if_any, weight_at, formed_at, count-Call, count-Build, parts-Two, parts-Between, parts-Any, parts-Every, parts-Each, parts-First}
 use Rattle.n1ql_expr.proofs.evaluation.+evaluation.Goals as goal
@@ -49,7 +47,7 @@ first-returns-in-Some t c =
     let env = environment_of c.args.scope.now in
     let pass = passes (option_map value_of (option_copied c.args.when)) c.args.name.now env in
     let item = value_at_element (value_of c.args.item.now) c.args.name.now env in
-    let env_inside : environment_of (Inside c.args.scope c.args.name c.in-Some.value) ≡ inside c.args.name.now c.in-Some.value.now env = around c.args.scope c.args.name c.in-Some.value in
+    let env_inside : environment_of c.inside-inner.result ≡ inside c.args.name.now c.in-Some.value.now env = c.inside-inner.ensures.environment in
     let shown : c.in_ok-into_value-in-Some.field-0 ≡ item c.in-Some.value.now = c.in_ok-into_value-in-Some.ensures ∙ (c.in_ok-evaluate-in-Some.ensures ∙ ap (value_of c.args.item.now) env_inside) in
     let some = ap option_copied (sym c.in-Some.is) ∙ c.in_ok-value-in-Array.ensures in
     shown ∙ (ap (λ found. or_missing (option_map item found)) some
