@@ -16,7 +16,7 @@ use Rattle.n1ql_ast.specs.declared.token_class.TokenClass.{TokenClass}
 use Rattle.n1ql_ast.specs.declared.unresolved_expr.UnresolvedExpr.{UnresolvedExpr}
 use Rattle.n1ql_ast.specs.declared.scope.Scope.{Scope}
 use Rattle.n1ql_ast.specs.Bindings.{IsClosedIn, in_scope, is_bound, with_name}
-use Rattle.n1ql_ast.specs.Forms.{has_its_counts, is_no_aggregate, of_each_part}
+use Rattle.n1ql_ast.specs.Forms.{of_each_part}
 use Rattle.n1ql_ast.specs.FormedStatements.{IsEvaluable, IsFormedCreate, IsFormedDdl, IsFormedIn, IsFormedKey}
 use Rattle.n1ql_ast.specs.Grammar.{IsExpr, IsObject, IsEach}
 use Rattle.n1ql_ast.specs.Names.{outermost, inside, resolved}
@@ -24,27 +24,27 @@ use Rattle.n1ql_ast.specs.Statements as s
 use Rattle.n1ql_ast.specs.Statements.{MayWith, MayWhere, IsKey, IsKeys, MoreKeys, IsDdl, array_key, primary_index, primary_key}
 use Rattle.n1ql_parse.proofs.Formed.{kept, kept-object, kept-each}
 use Rattle.n1ql_parse.proofs.Kept.{Keeps, KeepsIfAny, field-holds, meta-holds}
-use Rattle.n1ql_parse.proofs.Whole.{allows-counts, allows-plain}
+use Rattle.n1ql_parse.proofs.Whole.{allows-counts, allows-plain, counted_where, plain_where}
 
 -- each variable of what an unresolved expression is in a scope is bound in the scope, or inside the expression
 abbrev pub Bound : Type 0
 Bound = (x : UnresolvedExpr) (scope : Scope) → IsClosedIn scope.bound (resolved x scope)
 
 -- in whatever scope
-evaluable : (x : UnresolvedExpr) → Keeps (λ l. has_its_counts l) x → Keeps (λ l. is_no_aggregate l) x → (scope : Scope) → IsEvaluable (resolved x scope)
+evaluable : (x : UnresolvedExpr) → Keeps (counted_where false) x → Keeps (plain_where false) x → (scope : Scope) → IsEvaluable (resolved x scope)
 evaluable x counts plain scope = (counts scope, plain scope)
 
-formed : Bound → (x : UnresolvedExpr) → Keeps (λ l. has_its_counts l) x → Keeps (λ l. is_no_aggregate l) x → (scope : Scope) →
+formed : Bound → (x : UnresolvedExpr) → Keeps (counted_where false) x → Keeps (plain_where false) x → (scope : Scope) →
     IsFormedIn scope.bound (resolved x scope)
 formed bound x counts plain scope = (evaluable x counts plain scope, bound x scope)
 
-expr-formed : Bound → {x : UnresolvedExpr} {ts rest : List TokenClass} → IsExpr false ts x rest → (scope : Scope) → IsFormedIn scope.bound (resolved x scope)
-expr-formed bound {x = x} p = formed bound x (kept (λ l. has_its_counts l) false allows-counts p) (kept (λ l. is_no_aggregate l) false allows-plain p)
+pub expr-formed : Bound → {x : UnresolvedExpr} {ts rest : List TokenClass} → IsExpr false ts x rest → (scope : Scope) → IsFormedIn scope.bound (resolved x scope)
+expr-formed bound {x = x} p = formed bound x (kept counted_where false allows-counts p) (kept plain_where false allows-plain p)
 
 object-evaluable : {x : UnresolvedExpr} {ts rest : List TokenClass} → IsObject false ts x rest → (scope : Scope) → IsEvaluable (resolved x scope)
-object-evaluable {x = x} p = evaluable x (kept-object (λ l. has_its_counts l) false allows-counts p) (kept-object (λ l. is_no_aggregate l) false allows-plain p)
+object-evaluable {x = x} p = evaluable x (kept-object counted_where false allows-counts p) (kept-object plain_where false allows-plain p)
 
-formed-if-any : Bound → (x : Option UnresolvedExpr) → KeepsIfAny (λ l. has_its_counts l) x → KeepsIfAny (λ l. is_no_aggregate l) x → (scope : Scope) →
+formed-if-any : Bound → (x : Option UnresolvedExpr) → KeepsIfAny (counted_where false) x → KeepsIfAny (plain_where false) x → (scope : Scope) →
     IfSome (option_map (λ y. resolved y scope) x) (IsFormedIn scope.bound)
 formed-if-any bound None counts plain scope = tt
 formed-if-any bound (Some x) counts plain scope = ((counts scope, plain scope), bound x scope)
@@ -52,8 +52,8 @@ formed-if-any bound (Some x) counts plain scope = ((counts scope, plain scope), 
 each-formed : Bound → (keyspace : List ℕ) (distinct : Bool) {name : List ℕ} {item over : UnresolvedExpr} {when : Option UnresolvedExpr} {ts rest : List TokenClass} →
     IsEach false ts name item over when rest → IsFormedKey (array_key keyspace distinct name item over when)
 each-formed bound keyspace distinct {name = name} {item = item} {over = over} {when = when} p =
-    let c = kept-each (λ l. has_its_counts l) false allows-counts p in
-    let d = kept-each (λ l. is_no_aggregate l) false allows-plain p in
+    let c = kept-each counted_where false allows-counts p in
+    let d = kept-each plain_where false allows-plain p in
     let element : Scope = inside name (outermost keyspace) in
     (formed bound item c.item d.item element, formed bound over c.over d.over (outermost keyspace), formed-if-any bound when c.passes d.passes element)
 
@@ -99,8 +99,8 @@ id-closed =
 primary_key-formed : IsFormedKey primary_key
 primary_key-formed = (
   (
-    field-holds (λ l. has_its_counts l) false (expr.MetaOf true) (codes "id") allows-counts (meta-holds (λ l. has_its_counts l) false true allows-counts),
-    field-holds (λ l. is_no_aggregate l) false (expr.MetaOf true) (codes "id") allows-plain (meta-holds (λ l. is_no_aggregate l) false true allows-plain),
+    field-holds counted_where false (expr.MetaOf true) (codes "id") allows-counts (meta-holds counted_where false true allows-counts),
+    field-holds plain_where false (expr.MetaOf true) (codes "id") allows-plain (meta-holds plain_where false true allows-plain),
   ),
   id-closed,
 )

@@ -11,7 +11,7 @@ use Rattle.n1ql_value.specs.declared.op.Op.{Op}
 use Rattle.n1ql_value.specs.declared.value.Value.{Value}
 use Rattle.n1ql_value.specs.Functions.{TakesCount, least_count, most_count}
 use Rattle.n1ql_ast.specs.declared.agg.Agg.{Agg}
-use Rattle.n1ql_ast.specs.declared.expr.Expr.{Expr, fold-Expr, fold-roll-Expr}
+use Rattle.n1ql_ast.specs.declared.expr.Expr.{Expr, map-Expr, roll-Expr}
 use Rattle.n1ql_ast.specs.declared.expr.Expr.TheOpen.{Expr-F}
 use Rattle.n1ql_ast.specs.declared.expr.Expr.TheVariants as expr
 use Rattle.n1ql_ast.specs.declared.unresolved_expr.UnresolvedExpr.{UnresolvedExpr, fold-roll-UnresolvedExpr}
@@ -22,182 +22,167 @@ use Rattle.n1ql_ast.specs.declared.test.Test.{Test}
 use Rattle.n1ql_ast.specs.Forms.{all_hold, held_if_any, has_its_counts, is_no_aggregate, is_within, of_each_part, takes_count}
 use Rattle.n1ql_ast.specs.Names.{inside, level_in, meta_in, resolved}
 
--- a condition on each level, at every depth
-abbrev pub holds : (Expr-F Bool → Bool) → Expr → Bool
-holds good = fold-Expr Bool (λ l. good l && of_each_part l)
-
 -- an unresolved expression keeps a condition, whatever its names mean
-abbrev pub Keeps : (Expr-F Bool → Bool) → UnresolvedExpr → Type 0
-Keeps good x = (s : Scope) → IsTrue (holds good (resolved x s))
+abbrev pub Keeps : (Expr → Bool) → UnresolvedExpr → Type 0
+Keeps good x = (s : Scope) → IsTrue (good (resolved x s))
 
-abbrev pub KeepAll : (Expr-F Bool → Bool) → List UnresolvedExpr → Type 0
-KeepAll good xs = (s : Scope) → IsTrue (all_hold (map (holds good) (map (λ x. resolved x s) xs)))
+abbrev pub KeepAll : (Expr → Bool) → List UnresolvedExpr → Type 0
+KeepAll good xs = (s : Scope) → IsTrue (all_hold (map good (map (λ x. resolved x s) xs)))
 
-abbrev pub KeepsIfAny : (Expr-F Bool → Bool) → Option UnresolvedExpr → Type 0
-KeepsIfAny good x = (s : Scope) → IsTrue (held_if_any (option_map (holds good) (option_map (λ x. resolved x s) x)))
+abbrev pub KeepsIfAny : (Expr → Bool) → Option UnresolvedExpr → Type 0
+KeepsIfAny good x = (s : Scope) → IsTrue (held_if_any (option_map good (option_map (λ x. resolved x s) x)))
 
--- the condition holds of each level that has its counts, where aggregates may stand or it is none
-abbrev pub Allows : (Expr-F Bool → Bool) → Bool → Type 0
-Allows good agg = (l : Expr-F Bool) → IsTrue (has_its_counts l) → IsTrue (is_no_aggregate l || agg) → IsTrue (good l)
+-- The condition, one where aggregates may stand and one where none may, comes from the parts of an expression whose top level has
+-- its counts and is no aggregate where none may stand. None may inside an aggregate.
+abbrev pub Allows : (Bool → Expr → Bool) → Type 0
+Allows good = (agg : Bool) (l : Expr-F Expr) → IsTrue (has_its_counts l) → IsTrue (is_no_aggregate l || agg) →
+    IsTrue (of_each_part (map-Expr Expr Bool (good (is_no_aggregate l && agg)) l)) → IsTrue (good agg (roll-Expr l))
 
-both : {a b : Bool} → IsTrue a → IsTrue b → IsTrue (a && b)
+pub both : {a b : Bool} → IsTrue a → IsTrue b → IsTrue (a && b)
 both {a} {b} p q = ap (λ c. c && b) p ∙ q
-
--- from the condition on a level and on its parts
-level-holds : (good : Expr-F Bool → Bool) (agg : Bool) (l : Expr-F Bool) → Allows good agg → IsTrue (has_its_counts l) →
-    IsTrue (is_no_aggregate l || agg) → IsTrue (of_each_part l) → IsTrue (good l && of_each_part l)
-level-holds good agg l ok counts none parts = both (ok l counts none) parts
 
 maps_once : (g : UnresolvedExpr → Scope → Expr) (s : Scope) (xs : List UnresolvedExpr) → map (λ (f : Scope → Expr). f s) (map g xs) ≡ map (λ x. g x s) xs
 maps_once g s [] = refl
 maps_once g s (x ∷ xs) = ap (λ es. g x s ∷ es) (maps_once g s xs)
 
-pub keep-none : (good : Expr-F Bool → Bool) → KeepAll good []
+pub keep-none : (good : Expr → Bool) → KeepAll good []
 keep-none good s = refl
 
-pub keep-more : (good : Expr-F Bool → Bool) (x : UnresolvedExpr) (xs : List UnresolvedExpr) → Keeps good x → KeepAll good xs → KeepAll good (x ∷ xs)
+pub keep-more : (good : Expr → Bool) (x : UnresolvedExpr) (xs : List UnresolvedExpr) → Keeps good x → KeepAll good xs → KeepAll good (x ∷ xs)
 keep-more good x xs p q s = both (p s) (q s)
 
-pub keeps-if-none : (good : Expr-F Bool → Bool) → KeepsIfAny good None
+pub keeps-if-none : (good : Expr → Bool) → KeepsIfAny good None
 keeps-if-none good s = refl
 
-pub keeps-if-some : (good : Expr-F Bool → Bool) (x : UnresolvedExpr) → Keeps good x → KeepsIfAny good (Some x)
+pub keeps-if-some : (good : Expr → Bool) (x : UnresolvedExpr) → Keeps good x → KeepsIfAny good (Some x)
 keeps-if-some good x p s = p s
 
 -- constants, names and META
-pub keeps-Const : (good : Expr-F Bool → Bool) (agg : Bool) (v : Value) → Allows good agg → Keeps good (unresolved.Const v)
+pub keeps-Const : (good : Bool → Expr → Bool) (agg : Bool) (v : Value) → Allows good → Keeps (good agg) (unresolved.Const v)
 keeps-Const good agg v ok s =
-    subst (λ e. IsTrue (holds good e)) (sym (ap (λ p. resolved p s) (sym (unresolved.rolls-Const v)) ∙ ap (λ (f : Scope → Expr). f s) (fold-roll-UnresolvedExpr (Scope → Expr) level_in (UnresolvedExpr-F.Const v))))
-    (subst IsTrue (sym (ap (holds good) (sym (expr.rolls-Const v)) ∙ fold-roll-Expr Bool (λ l. good l && of_each_part l) (Expr-F.Const v)))
-    (level-holds good agg (Expr-F.Const v) ok refl refl refl))
+    subst (λ e. IsTrue (good agg e)) (sym (ap (λ p. resolved p s) (sym (unresolved.rolls-Const v)) ∙ ap (λ (f : Scope → Expr). f s) (fold-roll-UnresolvedExpr (Scope → Expr) level_in (UnresolvedExpr-F.Const v))))
+    (subst (λ e. IsTrue (good agg e)) (expr.rolls-Const v)
+    (ok agg (Expr-F.Const v) refl refl refl))
 
-doc-holds : (good : Expr-F Bool → Bool) (agg : Bool) → Allows good agg → IsTrue (holds good expr.Doc)
-doc-holds good agg ok =
-    subst IsTrue (sym (ap (holds good) (sym expr.rolls-Doc) ∙ fold-roll-Expr Bool (λ l. good l && of_each_part l) Expr-F.Doc))
-    (level-holds good agg Expr-F.Doc ok refl refl refl)
+doc-holds : (good : Bool → Expr → Bool) (agg : Bool) → Allows good → IsTrue (good agg expr.Doc)
+doc-holds good agg ok = subst (λ e. IsTrue (good agg e)) expr.rolls-Doc (ok agg Expr-F.Doc refl refl refl)
 
-var-holds : (good : Expr-F Bool → Bool) (agg : Bool) (name : List ℕ) → Allows good agg → IsTrue (holds good (expr.Var name))
-var-holds good agg name ok =
-    subst IsTrue (sym (ap (holds good) (sym (expr.rolls-Var name)) ∙ fold-roll-Expr Bool (λ l. good l && of_each_part l) (Expr-F.Var name)))
-    (level-holds good agg (Expr-F.Var name) ok refl refl refl)
+var-holds : (good : Bool → Expr → Bool) (agg : Bool) (name : List ℕ) → Allows good → IsTrue (good agg (expr.Var name))
+var-holds good agg name ok = subst (λ e. IsTrue (good agg e)) (expr.rolls-Var name) (ok agg (Expr-F.Var name) refl refl refl)
 
-pub field-holds : (good : Expr-F Bool → Bool) (agg : Bool) (e : Expr) (name : List ℕ) → Allows good agg → IsTrue (holds good e) →
-    IsTrue (holds good (expr.Field e name))
-field-holds good agg e name ok p =
-    subst IsTrue (sym (ap (holds good) (sym (expr.rolls-Field e name)) ∙ fold-roll-Expr Bool (λ l. good l && of_each_part l) (Expr-F.Field e name)))
-    (level-holds good agg (Expr-F.Field (holds good e) name) ok refl refl p)
+pub field-holds : (good : Bool → Expr → Bool) (agg : Bool) (e : Expr) (name : List ℕ) → Allows good → IsTrue (good agg e) →
+    IsTrue (good agg (expr.Field e name))
+field-holds good agg e name ok p = subst (λ e. IsTrue (good agg e)) (expr.rolls-Field e name) (ok agg (Expr-F.Field e name) refl refl p)
 
-pub meta-holds : (good : Expr-F Bool → Bool) (agg own : Bool) → Allows good agg → IsTrue (holds good (expr.MetaOf own))
-meta-holds good agg own ok =
-    subst IsTrue (sym (ap (holds good) (sym (expr.rolls-MetaOf own)) ∙ fold-roll-Expr Bool (λ l. good l && of_each_part l) (Expr-F.MetaOf own)))
-    (level-holds good agg (Expr-F.MetaOf own) ok refl refl refl)
+pub meta-holds : (good : Bool → Expr → Bool) (agg own : Bool) → Allows good → IsTrue (good agg (expr.MetaOf own))
+meta-holds good agg own ok = subst (λ e. IsTrue (good agg e)) (expr.rolls-MetaOf own) (ok agg (Expr-F.MetaOf own) refl refl refl)
 
 -- whichever of two expressions it is
-either-holds : (good : Expr-F Bool → Bool) (b : Bool) (e f : Expr) → IsTrue (holds good e) → IsTrue (holds good f) → IsTrue (holds good (if b then e else f))
+either-holds : (good : Expr → Bool) (b : Bool) (e f : Expr) → IsTrue (good e) → IsTrue (good f) → IsTrue (good (if b then e else f))
 either-holds good true e f p q = p
 either-holds good false e f p q = q
 
-pub keeps-Name : (good : Expr-F Bool → Bool) (agg : Bool) (name : List ℕ) → Allows good agg → Keeps good (unresolved.Name name)
+pub keeps-Name : (good : Bool → Expr → Bool) (agg : Bool) (name : List ℕ) → Allows good → Keeps (good agg) (unresolved.Name name)
 keeps-Name good agg name ok s =
-    subst (λ e. IsTrue (holds good e)) (sym (ap (λ p. resolved p s) (sym (unresolved.rolls-Name name)) ∙ ap (λ (f : Scope → Expr). f s) (fold-roll-UnresolvedExpr (Scope → Expr) level_in (UnresolvedExpr-F.Name name))))
-    (either-holds good (list_any (bytes_eq name) s.bound) (expr.Var name) (if bytes_eq name s.alias then expr.Doc else expr.Field expr.Doc name)
+    subst (λ e. IsTrue (good agg e)) (sym (ap (λ p. resolved p s) (sym (unresolved.rolls-Name name)) ∙ ap (λ (f : Scope → Expr). f s) (fold-roll-UnresolvedExpr (Scope → Expr) level_in (UnresolvedExpr-F.Name name))))
+    (either-holds (good agg) (list_any (bytes_eq name) s.bound) (expr.Var name) (if bytes_eq name s.alias then expr.Doc else expr.Field expr.Doc name)
     (var-holds good agg name ok)
-    (either-holds good (bytes_eq name s.alias) expr.Doc (expr.Field expr.Doc name) (doc-holds good agg ok)
+    (either-holds (good agg) (bytes_eq name s.alias) expr.Doc (expr.Field expr.Doc name) (doc-holds good agg ok)
     (field-holds good agg expr.Doc name ok (doc-holds good agg ok))))
 
-meta_in-holds : (good : Expr-F Bool → Bool) (agg : Bool) (s : Scope) (name : Option (List ℕ)) → Allows good agg → IsTrue (holds good (meta_in s name))
+meta_in-holds : (good : Bool → Expr → Bool) (agg : Bool) (s : Scope) (name : Option (List ℕ)) → Allows good → IsTrue (good agg (meta_in s name))
 meta_in-holds good agg s None ok = meta-holds good agg true ok
 meta_in-holds good agg s (Some name) ok = meta-holds good agg (bytes_eq name s.alias) ok
 
-pub keeps-Meta : (good : Expr-F Bool → Bool) (agg : Bool) (name : Option (List ℕ)) → Allows good agg → Keeps good (unresolved.Meta name)
+pub keeps-Meta : (good : Bool → Expr → Bool) (agg : Bool) (name : Option (List ℕ)) → Allows good → Keeps (good agg) (unresolved.Meta name)
 keeps-Meta good agg name ok s =
-    subst (λ e. IsTrue (holds good e)) (sym (ap (λ p. resolved p s) (sym (unresolved.rolls-Meta name)) ∙ ap (λ (f : Scope → Expr). f s) (fold-roll-UnresolvedExpr (Scope → Expr) level_in (UnresolvedExpr-F.Meta name))))
+    subst (λ e. IsTrue (good agg e)) (sym (ap (λ p. resolved p s) (sym (unresolved.rolls-Meta name)) ∙ ap (λ (f : Scope → Expr). f s) (fold-roll-UnresolvedExpr (Scope → Expr) level_in (UnresolvedExpr-F.Meta name))))
     (meta_in-holds good agg s name ok)
 
 -- what is made of parts
-pub keeps-Field : (good : Expr-F Bool → Bool) (agg : Bool) (x : UnresolvedExpr) (name : List ℕ) → Allows good agg → Keeps good x → Keeps good (unresolved.Field x name)
+pub keeps-Field : (good : Bool → Expr → Bool) (agg : Bool) (x : UnresolvedExpr) (name : List ℕ) → Allows good → Keeps (good agg) x → Keeps (good agg) (unresolved.Field x name)
 keeps-Field good agg x name ok hx s =
-    subst (λ e. IsTrue (holds good e)) (sym (ap (λ p. resolved p s) (sym (unresolved.rolls-Field x name)) ∙ ap (λ (f : Scope → Expr). f s) (fold-roll-UnresolvedExpr (Scope → Expr) level_in (UnresolvedExpr-F.Field x name))))
-    (subst IsTrue (sym (ap (holds good) (sym (expr.rolls-Field (resolved x s) name)) ∙ fold-roll-Expr Bool (λ l. good l && of_each_part l) (Expr-F.Field (resolved x s) name)))
-    (level-holds good agg (Expr-F.Field (holds good (resolved x s)) name) ok refl refl (hx s)))
+    subst (λ e. IsTrue (good agg e)) (sym (ap (λ p. resolved p s) (sym (unresolved.rolls-Field x name)) ∙ ap (λ (f : Scope → Expr). f s) (fold-roll-UnresolvedExpr (Scope → Expr) level_in (UnresolvedExpr-F.Field x name))))
+    (subst (λ e. IsTrue (good agg e)) (expr.rolls-Field (resolved x s) name)
+    (ok agg (Expr-F.Field (resolved x s) name) refl refl (hx s)))
 
-pub keeps-Place : (good : Expr-F Bool → Bool) (agg : Bool) (x : UnresolvedExpr) (y : UnresolvedExpr) → Allows good agg → Keeps good x → Keeps good y → Keeps good (unresolved.Place x y)
+pub keeps-Place : (good : Bool → Expr → Bool) (agg : Bool) (x : UnresolvedExpr) (y : UnresolvedExpr) → Allows good → Keeps (good agg) x → Keeps (good agg) y → Keeps (good agg) (unresolved.Place x y)
 keeps-Place good agg x y ok hx hy s =
-    subst (λ e. IsTrue (holds good e)) (sym (ap (λ p. resolved p s) (sym (unresolved.rolls-Place x y)) ∙ ap (λ (f : Scope → Expr). f s) (fold-roll-UnresolvedExpr (Scope → Expr) level_in (UnresolvedExpr-F.Place x y))))
-    (subst IsTrue (sym (ap (holds good) (sym (expr.rolls-Place (resolved x s) (resolved y s))) ∙ fold-roll-Expr Bool (λ l. good l && of_each_part l) (Expr-F.Place (resolved x s) (resolved y s))))
-    (level-holds good agg (Expr-F.Place (holds good (resolved x s)) (holds good (resolved y s))) ok refl refl (both (hx s) (hy s))))
+    subst (λ e. IsTrue (good agg e)) (sym (ap (λ p. resolved p s) (sym (unresolved.rolls-Place x y)) ∙ ap (λ (f : Scope → Expr). f s) (fold-roll-UnresolvedExpr (Scope → Expr) level_in (UnresolvedExpr-F.Place x y))))
+    (subst (λ e. IsTrue (good agg e)) (expr.rolls-Place (resolved x s) (resolved y s))
+    (ok agg (Expr-F.Place (resolved x s) (resolved y s)) refl refl (both (hx s) (hy s))))
 
-pub keeps-Not : (good : Expr-F Bool → Bool) (agg : Bool) (x : UnresolvedExpr) → Allows good agg → Keeps good x → Keeps good (unresolved.Not x)
+pub keeps-Not : (good : Bool → Expr → Bool) (agg : Bool) (x : UnresolvedExpr) → Allows good → Keeps (good agg) x → Keeps (good agg) (unresolved.Not x)
 keeps-Not good agg x ok hx s =
-    subst (λ e. IsTrue (holds good e)) (sym (ap (λ p. resolved p s) (sym (unresolved.rolls-Not x)) ∙ ap (λ (f : Scope → Expr). f s) (fold-roll-UnresolvedExpr (Scope → Expr) level_in (UnresolvedExpr-F.Not x))))
-    (subst IsTrue (sym (ap (holds good) (sym (expr.rolls-Not (resolved x s))) ∙ fold-roll-Expr Bool (λ l. good l && of_each_part l) (Expr-F.Not (resolved x s))))
-    (level-holds good agg (Expr-F.Not (holds good (resolved x s))) ok refl refl (hx s)))
+    subst (λ e. IsTrue (good agg e)) (sym (ap (λ p. resolved p s) (sym (unresolved.rolls-Not x)) ∙ ap (λ (f : Scope → Expr). f s) (fold-roll-UnresolvedExpr (Scope → Expr) level_in (UnresolvedExpr-F.Not x))))
+    (subst (λ e. IsTrue (good agg e)) (expr.rolls-Not (resolved x s))
+    (ok agg (Expr-F.Not (resolved x s)) refl refl (hx s)))
 
-pub keeps-Neg : (good : Expr-F Bool → Bool) (agg : Bool) (x : UnresolvedExpr) → Allows good agg → Keeps good x → Keeps good (unresolved.Neg x)
+pub keeps-Neg : (good : Bool → Expr → Bool) (agg : Bool) (x : UnresolvedExpr) → Allows good → Keeps (good agg) x → Keeps (good agg) (unresolved.Neg x)
 keeps-Neg good agg x ok hx s =
-    subst (λ e. IsTrue (holds good e)) (sym (ap (λ p. resolved p s) (sym (unresolved.rolls-Neg x)) ∙ ap (λ (f : Scope → Expr). f s) (fold-roll-UnresolvedExpr (Scope → Expr) level_in (UnresolvedExpr-F.Neg x))))
-    (subst IsTrue (sym (ap (holds good) (sym (expr.rolls-Neg (resolved x s))) ∙ fold-roll-Expr Bool (λ l. good l && of_each_part l) (Expr-F.Neg (resolved x s))))
-    (level-holds good agg (Expr-F.Neg (holds good (resolved x s))) ok refl refl (hx s)))
+    subst (λ e. IsTrue (good agg e)) (sym (ap (λ p. resolved p s) (sym (unresolved.rolls-Neg x)) ∙ ap (λ (f : Scope → Expr). f s) (fold-roll-UnresolvedExpr (Scope → Expr) level_in (UnresolvedExpr-F.Neg x))))
+    (subst (λ e. IsTrue (good agg e)) (expr.rolls-Neg (resolved x s))
+    (ok agg (Expr-F.Neg (resolved x s)) refl refl (hx s)))
 
-pub keeps-Two : (good : Expr-F Bool → Bool) (agg : Bool) (o : Op) (x : UnresolvedExpr) (y : UnresolvedExpr) → Allows good agg → Keeps good x → Keeps good y → Keeps good (unresolved.Two o x y)
+pub keeps-Two : (good : Bool → Expr → Bool) (agg : Bool) (o : Op) (x : UnresolvedExpr) (y : UnresolvedExpr) → Allows good → Keeps (good agg) x → Keeps (good agg) y → Keeps (good agg) (unresolved.Two o x y)
 keeps-Two good agg o x y ok hx hy s =
-    subst (λ e. IsTrue (holds good e)) (sym (ap (λ p. resolved p s) (sym (unresolved.rolls-Two o x y)) ∙ ap (λ (f : Scope → Expr). f s) (fold-roll-UnresolvedExpr (Scope → Expr) level_in (UnresolvedExpr-F.Two o x y))))
-    (subst IsTrue (sym (ap (holds good) (sym (expr.rolls-Two o (resolved x s) (resolved y s))) ∙ fold-roll-Expr Bool (λ l. good l && of_each_part l) (Expr-F.Two o (resolved x s) (resolved y s))))
-    (level-holds good agg (Expr-F.Two o (holds good (resolved x s)) (holds good (resolved y s))) ok refl refl (both (hx s) (hy s))))
+    subst (λ e. IsTrue (good agg e)) (sym (ap (λ p. resolved p s) (sym (unresolved.rolls-Two o x y)) ∙ ap (λ (f : Scope → Expr). f s) (fold-roll-UnresolvedExpr (Scope → Expr) level_in (UnresolvedExpr-F.Two o x y))))
+    (subst (λ e. IsTrue (good agg e)) (expr.rolls-Two o (resolved x s) (resolved y s))
+    (ok agg (Expr-F.Two o (resolved x s) (resolved y s)) refl refl (both (hx s) (hy s))))
 
-pub keeps-Is : (good : Expr-F Bool → Bool) (agg : Bool) (test : Test) (x : UnresolvedExpr) → Allows good agg → Keeps good x → Keeps good (unresolved.Is test x)
+pub keeps-Is : (good : Bool → Expr → Bool) (agg : Bool) (test : Test) (x : UnresolvedExpr) → Allows good → Keeps (good agg) x → Keeps (good agg) (unresolved.Is test x)
 keeps-Is good agg test x ok hx s =
-    subst (λ e. IsTrue (holds good e)) (sym (ap (λ p. resolved p s) (sym (unresolved.rolls-Is test x)) ∙ ap (λ (f : Scope → Expr). f s) (fold-roll-UnresolvedExpr (Scope → Expr) level_in (UnresolvedExpr-F.Is test x))))
-    (subst IsTrue (sym (ap (holds good) (sym (expr.rolls-Is test (resolved x s))) ∙ fold-roll-Expr Bool (λ l. good l && of_each_part l) (Expr-F.Is test (resolved x s))))
-    (level-holds good agg (Expr-F.Is test (holds good (resolved x s))) ok refl refl (hx s)))
+    subst (λ e. IsTrue (good agg e)) (sym (ap (λ p. resolved p s) (sym (unresolved.rolls-Is test x)) ∙ ap (λ (f : Scope → Expr). f s) (fold-roll-UnresolvedExpr (Scope → Expr) level_in (UnresolvedExpr-F.Is test x))))
+    (subst (λ e. IsTrue (good agg e)) (expr.rolls-Is test (resolved x s))
+    (ok agg (Expr-F.Is test (resolved x s)) refl refl (hx s)))
 
-pub keeps-Among : (good : Expr-F Bool → Bool) (agg : Bool) (x : UnresolvedExpr) (y : UnresolvedExpr) → Allows good agg → Keeps good x → Keeps good y → Keeps good (unresolved.Among x y)
+pub keeps-Among : (good : Bool → Expr → Bool) (agg : Bool) (x : UnresolvedExpr) (y : UnresolvedExpr) → Allows good → Keeps (good agg) x → Keeps (good agg) y → Keeps (good agg) (unresolved.Among x y)
 keeps-Among good agg x y ok hx hy s =
-    subst (λ e. IsTrue (holds good e)) (sym (ap (λ p. resolved p s) (sym (unresolved.rolls-Among x y)) ∙ ap (λ (f : Scope → Expr). f s) (fold-roll-UnresolvedExpr (Scope → Expr) level_in (UnresolvedExpr-F.Among x y))))
-    (subst IsTrue (sym (ap (holds good) (sym (expr.rolls-Among (resolved x s) (resolved y s))) ∙ fold-roll-Expr Bool (λ l. good l && of_each_part l) (Expr-F.Among (resolved x s) (resolved y s))))
-    (level-holds good agg (Expr-F.Among (holds good (resolved x s)) (holds good (resolved y s))) ok refl refl (both (hx s) (hy s))))
+    subst (λ e. IsTrue (good agg e)) (sym (ap (λ p. resolved p s) (sym (unresolved.rolls-Among x y)) ∙ ap (λ (f : Scope → Expr). f s) (fold-roll-UnresolvedExpr (Scope → Expr) level_in (UnresolvedExpr-F.Among x y))))
+    (subst (λ e. IsTrue (good agg e)) (expr.rolls-Among (resolved x s) (resolved y s))
+    (ok agg (Expr-F.Among (resolved x s) (resolved y s)) refl refl (both (hx s) (hy s))))
 
-pub keeps-Between : (good : Expr-F Bool → Bool) (agg : Bool) (x : UnresolvedExpr) (low : UnresolvedExpr) (high : UnresolvedExpr) → Allows good agg → Keeps good x → Keeps good low → Keeps good high → Keeps good (unresolved.Between x low high)
+pub keeps-Between : (good : Bool → Expr → Bool) (agg : Bool) (x : UnresolvedExpr) (low : UnresolvedExpr) (high : UnresolvedExpr) → Allows good → Keeps (good agg) x → Keeps (good agg) low → Keeps (good agg) high → Keeps (good agg) (unresolved.Between x low high)
 keeps-Between good agg x low high ok hx hlow hhigh s =
-    subst (λ e. IsTrue (holds good e)) (sym (ap (λ p. resolved p s) (sym (unresolved.rolls-Between x low high)) ∙ ap (λ (f : Scope → Expr). f s) (fold-roll-UnresolvedExpr (Scope → Expr) level_in (UnresolvedExpr-F.Between x low high))))
-    (subst IsTrue (sym (ap (holds good) (sym (expr.rolls-Between (resolved x s) (resolved low s) (resolved high s))) ∙ fold-roll-Expr Bool (λ l. good l && of_each_part l) (Expr-F.Between (resolved x s) (resolved low s) (resolved high s))))
-    (level-holds good agg (Expr-F.Between (holds good (resolved x s)) (holds good (resolved low s)) (holds good (resolved high s))) ok refl refl (both (hx s) (both (hlow s) (hhigh s)))))
+    subst (λ e. IsTrue (good agg e)) (sym (ap (λ p. resolved p s) (sym (unresolved.rolls-Between x low high)) ∙ ap (λ (f : Scope → Expr). f s) (fold-roll-UnresolvedExpr (Scope → Expr) level_in (UnresolvedExpr-F.Between x low high))))
+    (subst (λ e. IsTrue (good agg e)) (expr.rolls-Between (resolved x s) (resolved low s) (resolved high s))
+    (ok agg (Expr-F.Between (resolved x s) (resolved low s) (resolved high s)) refl refl (both (hx s) (both (hlow s) (hhigh s)))))
 
-pub keeps-Any : (good : Expr-F Bool → Bool) (agg : Bool) (name : List ℕ) (over : UnresolvedExpr) (test : UnresolvedExpr) → Allows good agg → Keeps good over → Keeps good test → Keeps good (unresolved.Any name over test)
+pub keeps-Any : (good : Bool → Expr → Bool) (agg : Bool) (name : List ℕ) (over : UnresolvedExpr) (test : UnresolvedExpr) → Allows good → Keeps (good agg) over → Keeps (good agg) test → Keeps (good agg) (unresolved.Any name over test)
 keeps-Any good agg name over test ok hover htest s =
-    subst (λ e. IsTrue (holds good e)) (sym (ap (λ p. resolved p s) (sym (unresolved.rolls-Any name over test)) ∙ ap (λ (f : Scope → Expr). f s) (fold-roll-UnresolvedExpr (Scope → Expr) level_in (UnresolvedExpr-F.Any name over test))))
-    (subst IsTrue (sym (ap (holds good) (sym (expr.rolls-Any name (resolved over s) (resolved test (inside name s)))) ∙ fold-roll-Expr Bool (λ l. good l && of_each_part l) (Expr-F.Any name (resolved over s) (resolved test (inside name s)))))
-    (level-holds good agg (Expr-F.Any name (holds good (resolved over s)) (holds good (resolved test (inside name s)))) ok refl refl (both (hover s) (htest (inside name s)))))
+    subst (λ e. IsTrue (good agg e)) (sym (ap (λ p. resolved p s) (sym (unresolved.rolls-Any name over test)) ∙ ap (λ (f : Scope → Expr). f s) (fold-roll-UnresolvedExpr (Scope → Expr) level_in (UnresolvedExpr-F.Any name over test))))
+    (subst (λ e. IsTrue (good agg e)) (expr.rolls-Any name (resolved over s) (resolved test (inside name s)))
+    (ok agg (Expr-F.Any name (resolved over s) (resolved test (inside name s))) refl refl (both (hover s) (htest (inside name s)))))
 
-pub keeps-Every : (good : Expr-F Bool → Bool) (agg : Bool) (name : List ℕ) (over : UnresolvedExpr) (test : UnresolvedExpr) → Allows good agg → Keeps good over → Keeps good test → Keeps good (unresolved.Every name over test)
+pub keeps-Every : (good : Bool → Expr → Bool) (agg : Bool) (name : List ℕ) (over : UnresolvedExpr) (test : UnresolvedExpr) → Allows good → Keeps (good agg) over → Keeps (good agg) test → Keeps (good agg) (unresolved.Every name over test)
 keeps-Every good agg name over test ok hover htest s =
-    subst (λ e. IsTrue (holds good e)) (sym (ap (λ p. resolved p s) (sym (unresolved.rolls-Every name over test)) ∙ ap (λ (f : Scope → Expr). f s) (fold-roll-UnresolvedExpr (Scope → Expr) level_in (UnresolvedExpr-F.Every name over test))))
-    (subst IsTrue (sym (ap (holds good) (sym (expr.rolls-Every name (resolved over s) (resolved test (inside name s)))) ∙ fold-roll-Expr Bool (λ l. good l && of_each_part l) (Expr-F.Every name (resolved over s) (resolved test (inside name s)))))
-    (level-holds good agg (Expr-F.Every name (holds good (resolved over s)) (holds good (resolved test (inside name s)))) ok refl refl (both (hover s) (htest (inside name s)))))
+    subst (λ e. IsTrue (good agg e)) (sym (ap (λ p. resolved p s) (sym (unresolved.rolls-Every name over test)) ∙ ap (λ (f : Scope → Expr). f s) (fold-roll-UnresolvedExpr (Scope → Expr) level_in (UnresolvedExpr-F.Every name over test))))
+    (subst (λ e. IsTrue (good agg e)) (expr.rolls-Every name (resolved over s) (resolved test (inside name s)))
+    (ok agg (Expr-F.Every name (resolved over s) (resolved test (inside name s))) refl refl (both (hover s) (htest (inside name s)))))
 
-pub keeps-Each : (good : Expr-F Bool → Bool) (agg : Bool) (name : List ℕ) (item : UnresolvedExpr) (over : UnresolvedExpr) (when : Option UnresolvedExpr) → Allows good agg → Keeps good item → Keeps good over → KeepsIfAny good when → Keeps good (unresolved.Each name item over when)
+pub keeps-Each : (good : Bool → Expr → Bool) (agg : Bool) (name : List ℕ) (item : UnresolvedExpr) (over : UnresolvedExpr) (when : Option UnresolvedExpr) → Allows good → Keeps (good agg) item → Keeps (good agg) over → KeepsIfAny (good agg) when → Keeps (good agg) (unresolved.Each name item over when)
 keeps-Each good agg name item over None ok hitem hover hwhen s =
-    subst (λ e. IsTrue (holds good e)) (sym (ap (λ p. resolved p s) (sym (unresolved.rolls-Each name item over None)) ∙ ap (λ (f : Scope → Expr). f s) (fold-roll-UnresolvedExpr (Scope → Expr) level_in (UnresolvedExpr-F.Each name item over None))))
-    (subst IsTrue (sym (ap (holds good) (sym (expr.rolls-Each name (resolved item (inside name s)) (resolved over s) None)) ∙ fold-roll-Expr Bool (λ l. good l && of_each_part l) (Expr-F.Each name (resolved item (inside name s)) (resolved over s) None)))
-    (level-holds good agg (Expr-F.Each name (holds good (resolved item (inside name s))) (holds good (resolved over s)) None) ok refl refl (both (hitem (inside name s)) (both (hover s) (hwhen (inside name s))))))
+    subst (λ e. IsTrue (good agg e)) (sym (ap (λ p. resolved p s) (sym (unresolved.rolls-Each name item over None)) ∙ ap (λ (f : Scope → Expr). f s) (fold-roll-UnresolvedExpr (Scope → Expr) level_in (UnresolvedExpr-F.Each name item over None))))
+    (subst (λ e. IsTrue (good agg e)) (expr.rolls-Each name (resolved item (inside name s)) (resolved over s) None)
+    (ok agg (Expr-F.Each name (resolved item (inside name s)) (resolved over s) None) refl refl (both (hitem (inside name s)) (both (hover s) (hwhen (inside name s))))))
 keeps-Each good agg name item over (Some when) ok hitem hover hwhen s =
-    subst (λ e. IsTrue (holds good e)) (sym (ap (λ p. resolved p s) (sym (unresolved.rolls-Each name item over (Some when))) ∙ ap (λ (f : Scope → Expr). f s) (fold-roll-UnresolvedExpr (Scope → Expr) level_in (UnresolvedExpr-F.Each name item over (Some when)))))
-    (subst IsTrue (sym (ap (holds good) (sym (expr.rolls-Each name (resolved item (inside name s)) (resolved over s) (Some (resolved when (inside name s))))) ∙ fold-roll-Expr Bool (λ l. good l && of_each_part l) (Expr-F.Each name (resolved item (inside name s)) (resolved over s) (Some (resolved when (inside name s))))))
-    (level-holds good agg (Expr-F.Each name (holds good (resolved item (inside name s))) (holds good (resolved over s)) (Some (holds good (resolved when (inside name s))))) ok refl refl (both (hitem (inside name s)) (both (hover s) (hwhen (inside name s))))))
+    subst (λ e. IsTrue (good agg e)) (sym (ap (λ p. resolved p s) (sym (unresolved.rolls-Each name item over (Some when))) ∙ ap (λ (f : Scope → Expr). f s) (fold-roll-UnresolvedExpr (Scope → Expr) level_in (UnresolvedExpr-F.Each name item over (Some when)))))
+    (subst (λ e. IsTrue (good agg e)) (expr.rolls-Each name (resolved item (inside name s)) (resolved over s) (Some (resolved when (inside name s))))
+    (ok agg (Expr-F.Each name (resolved item (inside name s)) (resolved over s) (Some (resolved when (inside name s)))) refl refl (both (hitem (inside name s)) (both (hover s) (hwhen (inside name s))))))
 
-pub keeps-First : (good : Expr-F Bool → Bool) (agg : Bool) (name : List ℕ) (item : UnresolvedExpr) (over : UnresolvedExpr) (when : Option UnresolvedExpr) → Allows good agg → Keeps good item → Keeps good over → KeepsIfAny good when → Keeps good (unresolved.First name item over when)
+pub keeps-First : (good : Bool → Expr → Bool) (agg : Bool) (name : List ℕ) (item : UnresolvedExpr) (over : UnresolvedExpr) (when : Option UnresolvedExpr) → Allows good → Keeps (good agg) item → Keeps (good agg) over → KeepsIfAny (good agg) when → Keeps (good agg) (unresolved.First name item over when)
 keeps-First good agg name item over None ok hitem hover hwhen s =
-    subst (λ e. IsTrue (holds good e)) (sym (ap (λ p. resolved p s) (sym (unresolved.rolls-First name item over None)) ∙ ap (λ (f : Scope → Expr). f s) (fold-roll-UnresolvedExpr (Scope → Expr) level_in (UnresolvedExpr-F.First name item over None))))
-    (subst IsTrue (sym (ap (holds good) (sym (expr.rolls-First name (resolved item (inside name s)) (resolved over s) None)) ∙ fold-roll-Expr Bool (λ l. good l && of_each_part l) (Expr-F.First name (resolved item (inside name s)) (resolved over s) None)))
-    (level-holds good agg (Expr-F.First name (holds good (resolved item (inside name s))) (holds good (resolved over s)) None) ok refl refl (both (hitem (inside name s)) (both (hover s) (hwhen (inside name s))))))
+    subst (λ e. IsTrue (good agg e)) (sym (ap (λ p. resolved p s) (sym (unresolved.rolls-First name item over None)) ∙ ap (λ (f : Scope → Expr). f s) (fold-roll-UnresolvedExpr (Scope → Expr) level_in (UnresolvedExpr-F.First name item over None))))
+    (subst (λ e. IsTrue (good agg e)) (expr.rolls-First name (resolved item (inside name s)) (resolved over s) None)
+    (ok agg (Expr-F.First name (resolved item (inside name s)) (resolved over s) None) refl refl (both (hitem (inside name s)) (both (hover s) (hwhen (inside name s))))))
 keeps-First good agg name item over (Some when) ok hitem hover hwhen s =
-    subst (λ e. IsTrue (holds good e)) (sym (ap (λ p. resolved p s) (sym (unresolved.rolls-First name item over (Some when))) ∙ ap (λ (f : Scope → Expr). f s) (fold-roll-UnresolvedExpr (Scope → Expr) level_in (UnresolvedExpr-F.First name item over (Some when)))))
-    (subst IsTrue (sym (ap (holds good) (sym (expr.rolls-First name (resolved item (inside name s)) (resolved over s) (Some (resolved when (inside name s))))) ∙ fold-roll-Expr Bool (λ l. good l && of_each_part l) (Expr-F.First name (resolved item (inside name s)) (resolved over s) (Some (resolved when (inside name s))))))
-    (level-holds good agg (Expr-F.First name (holds good (resolved item (inside name s))) (holds good (resolved over s)) (Some (holds good (resolved when (inside name s))))) ok refl refl (both (hitem (inside name s)) (both (hover s) (hwhen (inside name s))))))
+    subst (λ e. IsTrue (good agg e)) (sym (ap (λ p. resolved p s) (sym (unresolved.rolls-First name item over (Some when))) ∙ ap (λ (f : Scope → Expr). f s) (fold-roll-UnresolvedExpr (Scope → Expr) level_in (UnresolvedExpr-F.First name item over (Some when)))))
+    (subst (λ e. IsTrue (good agg e)) (expr.rolls-First name (resolved item (inside name s)) (resolved over s) (Some (resolved when (inside name s))))
+    (ok agg (Expr-F.First name (resolved item (inside name s)) (resolved over s) (Some (resolved when (inside name s)))) refl refl (both (hitem (inside name s)) (both (hover s) (hwhen (inside name s))))))
 
 -- what holds lists
-counted : (good : Expr-F Bool → Bool) (s : Scope) (xs : List UnresolvedExpr) → length (map (holds good) (map (λ x. resolved x s) xs)) ≡ length xs
-counted good s xs = length-map (map (λ x. resolved x s) xs) (holds good) ∙ length-map xs (λ x. resolved x s)
+counted : (s : Scope) (xs : List UnresolvedExpr) → length (map (λ x. resolved x s) xs) ≡ length xs
+counted s xs = length-map xs (λ x. resolved x s)
 
 within-holds : (most : Option ℕ) (n : ℕ) → MatchOption most ⊤ (λ m. n ≤ m) → IsTrue (is_within most n)
 within-holds None n h = refl
@@ -212,61 +197,61 @@ takes-holds fun n h = both (least-holds (least_count fun) n h.0) (within-holds (
 equal-holds : (m n : ℕ) → m ≡ n → IsTrue (m == n)
 equal-holds m n h = grind (arith, nat_tests)
 
-pub keeps-Call : (good : Expr-F Bool → Bool) (agg : Bool) (fun : Fun) (xs : List UnresolvedExpr) → Allows good agg → TakesCount fun (length xs) →
-    KeepAll good xs → Keeps good (unresolved.Call fun xs)
+pub keeps-Call : (good : Bool → Expr → Bool) (agg : Bool) (fun : Fun) (xs : List UnresolvedExpr) → Allows good → TakesCount fun (length xs) →
+    KeepAll (good agg) xs → Keeps (good agg) (unresolved.Call fun xs)
 keeps-Call good agg fun xs ok count hxs s =
     let es = map (λ x. resolved x s) xs in
-    subst (λ e. IsTrue (holds good e)) (sym (ap (λ p. resolved p s) (sym (unresolved.rolls-Call fun xs)) ∙ (ap (λ (f : Scope → Expr). f s) (fold-roll-UnresolvedExpr (Scope → Expr) level_in (UnresolvedExpr-F.Call fun xs)) ∙ ap (expr.Call fun) (maps_once resolved s xs))))
-    (subst IsTrue (sym (ap (holds good) (sym (expr.rolls-Call fun es)) ∙ fold-roll-Expr Bool (λ l. good l && of_each_part l) (Expr-F.Call fun es)))
-    (level-holds good agg (Expr-F.Call fun (map (holds good) es)) ok
-    (takes-holds fun (length (map (holds good) es)) (subst (TakesCount fun) (sym (counted good s xs)) count)) refl (hxs s)))
+    subst (λ e. IsTrue (good agg e)) (sym (ap (λ p. resolved p s) (sym (unresolved.rolls-Call fun xs)) ∙ (ap (λ (f : Scope → Expr). f s) (fold-roll-UnresolvedExpr (Scope → Expr) level_in (UnresolvedExpr-F.Call fun xs)) ∙ ap (expr.Call fun) (maps_once resolved s xs))))
+    (subst (λ e. IsTrue (good agg e)) (expr.rolls-Call fun es)
+    (ok agg (Expr-F.Call fun es)
+    (takes-holds fun (length es) (subst (TakesCount fun) (sym (counted s xs)) count)) refl (hxs s)))
 
-pub keeps-List : (good : Expr-F Bool → Bool) (agg : Bool) (xs : List UnresolvedExpr) → Allows good agg → KeepAll good xs → Keeps good (unresolved.List xs)
+pub keeps-List : (good : Bool → Expr → Bool) (agg : Bool) (xs : List UnresolvedExpr) → Allows good → KeepAll (good agg) xs → Keeps (good agg) (unresolved.List xs)
 keeps-List good agg xs ok hxs s =
     let es = map (λ x. resolved x s) xs in
-    subst (λ e. IsTrue (holds good e)) (sym (ap (λ p. resolved p s) (sym (unresolved.rolls-List xs)) ∙ (ap (λ (f : Scope → Expr). f s) (fold-roll-UnresolvedExpr (Scope → Expr) level_in (UnresolvedExpr-F.List xs)) ∙ ap expr.List (maps_once resolved s xs))))
-    (subst IsTrue (sym (ap (holds good) (sym (expr.rolls-List es)) ∙ fold-roll-Expr Bool (λ l. good l && of_each_part l) (Expr-F.List es)))
-    (level-holds good agg (Expr-F.List (map (holds good) es)) ok refl refl (hxs s)))
+    subst (λ e. IsTrue (good agg e)) (sym (ap (λ p. resolved p s) (sym (unresolved.rolls-List xs)) ∙ (ap (λ (f : Scope → Expr). f s) (fold-roll-UnresolvedExpr (Scope → Expr) level_in (UnresolvedExpr-F.List xs)) ∙ ap expr.List (maps_once resolved s xs))))
+    (subst (λ e. IsTrue (good agg e)) (expr.rolls-List es)
+    (ok agg (Expr-F.List es) refl refl (hxs s)))
 
-pub keeps-Build : (good : Expr-F Bool → Bool) (agg : Bool) (names : List (List ℕ)) (xs : List UnresolvedExpr) → Allows good agg → length names ≡ length xs →
-    KeepAll good xs → Keeps good (unresolved.Build names xs)
+pub keeps-Build : (good : Bool → Expr → Bool) (agg : Bool) (names : List (List ℕ)) (xs : List UnresolvedExpr) → Allows good → length names ≡ length xs →
+    KeepAll (good agg) xs → Keeps (good agg) (unresolved.Build names xs)
 keeps-Build good agg names xs ok count hxs s =
     let es = map (λ x. resolved x s) xs in
-    subst (λ e. IsTrue (holds good e)) (sym (ap (λ p. resolved p s) (sym (unresolved.rolls-Build names xs)) ∙ (ap (λ (f : Scope → Expr). f s) (fold-roll-UnresolvedExpr (Scope → Expr) level_in (UnresolvedExpr-F.Build names xs)) ∙ ap (expr.Build names) (maps_once resolved s xs))))
-    (subst IsTrue (sym (ap (holds good) (sym (expr.rolls-Build names es)) ∙ fold-roll-Expr Bool (λ l. good l && of_each_part l) (Expr-F.Build names es)))
-    (level-holds good agg (Expr-F.Build names (map (holds good) es)) ok
-    (equal-holds (length names) (length (map (holds good) es)) (count ∙ sym (counted good s xs))) refl (hxs s)))
+    subst (λ e. IsTrue (good agg e)) (sym (ap (λ p. resolved p s) (sym (unresolved.rolls-Build names xs)) ∙ (ap (λ (f : Scope → Expr). f s) (fold-roll-UnresolvedExpr (Scope → Expr) level_in (UnresolvedExpr-F.Build names xs)) ∙ ap (expr.Build names) (maps_once resolved s xs))))
+    (subst (λ e. IsTrue (good agg e)) (expr.rolls-Build names es)
+    (ok agg (Expr-F.Build names es)
+    (equal-holds (length names) (length es) (count ∙ sym (counted s xs))) refl (hxs s)))
 
-pub keeps-Case : (good : Expr-F Bool → Bool) (agg : Bool) (whens thens : List UnresolvedExpr) (other : Option UnresolvedExpr) → Allows good agg →
-    length whens ≡ length thens → KeepAll good whens → KeepAll good thens → KeepsIfAny good other → Keeps good (unresolved.Case whens thens other)
+pub keeps-Case : (good : Bool → Expr → Bool) (agg : Bool) (whens thens : List UnresolvedExpr) (other : Option UnresolvedExpr) → Allows good →
+    length whens ≡ length thens → KeepAll (good agg) whens → KeepAll (good agg) thens → KeepsIfAny (good agg) other → Keeps (good agg) (unresolved.Case whens thens other)
 keeps-Case good agg whens thens None ok count hw ht ho s =
     let ws = map (λ x. resolved x s) whens in
     let ts = map (λ x. resolved x s) thens in
-    subst (λ e. IsTrue (holds good e))
+    subst (λ e. IsTrue (good agg e))
     (sym (ap (λ p. resolved p s) (sym (unresolved.rolls-Case whens thens None)) ∙ (ap (λ (f : Scope → Expr). f s) (fold-roll-UnresolvedExpr (Scope → Expr) level_in (UnresolvedExpr-F.Case whens thens None))
     ∙ ap₂ (λ a b. expr.Case a b None) (maps_once resolved s whens) (maps_once resolved s thens))))
-    (subst IsTrue (sym (ap (holds good) (sym (expr.rolls-Case ws ts None)) ∙ fold-roll-Expr Bool (λ l. good l && of_each_part l) (Expr-F.Case ws ts None)))
-    (level-holds good agg (Expr-F.Case (map (holds good) ws) (map (holds good) ts) None) ok
-    (equal-holds (length (map (holds good) ws)) (length (map (holds good) ts)) (counted good s whens ∙ (count ∙ sym (counted good s thens)))) refl
+    (subst (λ e. IsTrue (good agg e)) (expr.rolls-Case ws ts None)
+    (ok agg (Expr-F.Case ws ts None)
+    (equal-holds (length ws) (length ts) (counted s whens ∙ (count ∙ sym (counted s thens)))) refl
     (both (hw s) (both (ht s) (ho s)))))
 keeps-Case good agg whens thens (Some x) ok count hw ht ho s =
     let ws = map (λ x. resolved x s) whens in
     let ts = map (λ x. resolved x s) thens in
-    subst (λ e. IsTrue (holds good e))
+    subst (λ e. IsTrue (good agg e))
     (sym (ap (λ p. resolved p s) (sym (unresolved.rolls-Case whens thens (Some x))) ∙ (ap (λ (f : Scope → Expr). f s) (fold-roll-UnresolvedExpr (Scope → Expr) level_in (UnresolvedExpr-F.Case whens thens (Some x)))
     ∙ ap₂ (λ a b. expr.Case a b (Some (resolved x s))) (maps_once resolved s whens) (maps_once resolved s thens))))
-    (subst IsTrue (sym (ap (holds good) (sym (expr.rolls-Case ws ts (Some (resolved x s)))) ∙ fold-roll-Expr Bool (λ l. good l && of_each_part l) (Expr-F.Case ws ts (Some (resolved x s)))))
-    (level-holds good agg (Expr-F.Case (map (holds good) ws) (map (holds good) ts) (Some (holds good (resolved x s)))) ok
-    (equal-holds (length (map (holds good) ws)) (length (map (holds good) ts)) (counted good s whens ∙ (count ∙ sym (counted good s thens)))) refl
+    (subst (λ e. IsTrue (good agg e)) (expr.rolls-Case ws ts (Some (resolved x s)))
+    (ok agg (Expr-F.Case ws ts (Some (resolved x s)))
+    (equal-holds (length ws) (length ts) (counted s whens ∙ (count ∙ sym (counted s thens)))) refl
     (both (hw s) (both (ht s) (ho s)))))
 
 -- an aggregate stands only where it may
-pub keeps-Agg : (good : Expr-F Bool → Bool) (a : Agg) (x : Option UnresolvedExpr) → Allows good true → KeepsIfAny good x → Keeps good (unresolved.Agg a x)
+pub keeps-Agg : (good : Bool → Expr → Bool) (a : Agg) (x : Option UnresolvedExpr) → Allows good → KeepsIfAny (good false) x → Keeps (good true) (unresolved.Agg a x)
 keeps-Agg good a None ok hx s =
-    subst (λ e. IsTrue (holds good e)) (sym (ap (λ p. resolved p s) (sym (unresolved.rolls-Agg a None)) ∙ ap (λ (f : Scope → Expr). f s) (fold-roll-UnresolvedExpr (Scope → Expr) level_in (UnresolvedExpr-F.Agg a None))))
-    (subst IsTrue (sym (ap (holds good) (sym (expr.rolls-Agg a None)) ∙ fold-roll-Expr Bool (λ l. good l && of_each_part l) (Expr-F.Agg a None)))
-    (level-holds good true (Expr-F.Agg a None) ok refl refl (hx s)))
+    subst (λ e. IsTrue (good true e)) (sym (ap (λ p. resolved p s) (sym (unresolved.rolls-Agg a None)) ∙ ap (λ (f : Scope → Expr). f s) (fold-roll-UnresolvedExpr (Scope → Expr) level_in (UnresolvedExpr-F.Agg a None))))
+    (subst (λ e. IsTrue (good true e)) (expr.rolls-Agg a None)
+    (ok true (Expr-F.Agg a None) refl refl (hx s)))
 keeps-Agg good a (Some x) ok hx s =
-    subst (λ e. IsTrue (holds good e)) (sym (ap (λ p. resolved p s) (sym (unresolved.rolls-Agg a (Some x))) ∙ ap (λ (f : Scope → Expr). f s) (fold-roll-UnresolvedExpr (Scope → Expr) level_in (UnresolvedExpr-F.Agg a (Some x)))))
-    (subst IsTrue (sym (ap (holds good) (sym (expr.rolls-Agg a (Some (resolved x s)))) ∙ fold-roll-Expr Bool (λ l. good l && of_each_part l) (Expr-F.Agg a (Some (resolved x s)))))
-    (level-holds good true (Expr-F.Agg a (Some (holds good (resolved x s)))) ok refl refl (hx s)))
+    subst (λ e. IsTrue (good true e)) (sym (ap (λ p. resolved p s) (sym (unresolved.rolls-Agg a (Some x))) ∙ ap (λ (f : Scope → Expr). f s) (fold-roll-UnresolvedExpr (Scope → Expr) level_in (UnresolvedExpr-F.Agg a (Some x)))))
+    (subst (λ e. IsTrue (good true e)) (expr.rolls-Agg a (Some (resolved x s)))
+    (ok true (Expr-F.Agg a (Some (resolved x s))) refl refl (hx s)))

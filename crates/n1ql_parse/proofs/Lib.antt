@@ -4,6 +4,6 @@ mod Kept
 mod Formed
 mod Whole
 mod FormedDefinitions
-mod WholeStatements
+mod FormedQueries
 mod Texts
 mod OneAnswer

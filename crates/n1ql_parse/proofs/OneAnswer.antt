@@ -4,16 +4,17 @@ use Rattle.std.proofs.lemmas.Bool.{cases_lt}
 use Rattle.std.proofs.lemmas.List.{take-append-drop}
 use Rattle.n1ql_ast.specs.declared.token_class.TokenClass.{TokenClass}
 use Rattle.n1ql_ast.specs.Faults.{Begins, FollowsExpr, Leaves}
-use Rattle.n1ql_ast.specs.Grammar.{IsWhole}
 use Rattle.n1ql_ast.specs.Names.{outermost, resolved}
+use Rattle.n1ql_ast.specs.ResolvedSelections.{resolved_select}
+use Rattle.n1ql_ast.specs.Selections.{FollowsSelect}
 use Rattle.n1ql_ast.specs.Statements.{FollowsDdl, IsStatement}
 use Rattle.n1ql_lex.specs.declared.token.Token.{Token}
 use Rattle.n1ql_lex.specs.Tokens.{IsFault, IsTokens}
 use Rattle.n1ql_parse.specs.Faults.{IsFaultIn, IsTokenFault, no_token, too_many, not_few_tokens, no_text_goes_on, place_of}
 use Rattle.n1ql_parse.specs.Input.{classes_of}
-use Rattle.n1ql_parse.specs.Readings.{IsMeant, IsTextOf, most_tokens}
+use Rattle.n1ql_parse.specs.Readings.{IsMeant, IsMeantExpr, IsMeantSelect, IsTextOf, most_tokens}
 use Rattle.n1ql_parse.specs.inner.Steps.{Outcome, got, stuck, Parser}
-use Rattle.n1ql_parse.proofs.Texts.{Exact, exact-expr, exact-statement}
+use Rattle.n1ql_parse.proofs.Texts.{Exact, exact-expr, exact-select, exact-statement}
 
 -- what the tokens of a text obey
 abbrev pub OneTokenList : Type 0
@@ -152,17 +153,20 @@ exact-language {A} {p} {Is} exact = record {
 pub statements : Language IsStatement FollowsDdl
 statements = exact-language exact-statement
 
-unresolved_exprs : Language IsWhole FollowsExpr
-unresolved_exprs = exact-language exact-expr
-
-pub expressions : (alias : List ℕ) → Language (IsMeant alias) FollowsExpr
-expressions alias = record {
-  same = λ ts e other r s.
-      r.meaning ∙ (ap (λ x. resolved x (outermost alias)) (unresolved_exprs.same ts r.unresolved s.unresolved r.whole s.whole) ∙ sym s.meaning);
-  follows = λ ts e r. (r.unresolved, r.whole);
+-- the trees that unresolved ones mean
+meant : {U A : Type 0} {Is : List TokenClass → U → Type 0} {Follows : List TokenClass → Type 0} → Language Is Follows → (meaning_of : U → A) → Language (IsMeant Is meaning_of) Follows
+meant language meaning_of = record {
+  same = λ ts e other r s. r.meaning ∙ (ap meaning_of (language.same ts r.unresolved s.unresolved r.whole s.whole) ∙ sym s.meaning);
+  follows = λ ts e r. language.follows ts r.unresolved r.whole;
   either = λ ts.
       ⊎_elim
-      (λ h. inl (resolved h.0 (outermost alias), record { unresolved = h.0; whole = h.1; meaning = refl }))
+      (λ h. inl (meaning_of h.0, record { unresolved = h.0; whole = h.1; meaning = refl }))
       (λ h. inr h)
-      (unresolved_exprs.either ts);
+      (language.either ts);
 }
+
+pub expressions : (alias : List ℕ) → Language (IsMeantExpr alias) FollowsExpr
+expressions alias = meant (exact-language exact-expr) (λ x. resolved x (outermost alias))
+
+pub selects : Language IsMeantSelect FollowsSelect
+selects = meant (exact-language exact-select) resolved_select

@@ -22,3 +22,7 @@ pub mod Wholes
 pub mod Several
 pub mod Clauses
 pub mod Statements
+pub mod Fronts
+pub mod Terms
+pub mod QueryParts
+pub mod Selects

@@ -1,13 +1,15 @@
 -- From what the rules of a language read to the trees and faults of a text.
-use Rattle.std.proofs.Common.{◌≡◌, ℕ, ◌-◌, ◌≤◌, List, [], ◌∷◌, length, refl, subst}
+use Rattle.std.proofs.Common.{◌≡◌, ℕ, ◌-◌, ◌≤◌, Bool, false, List, [], ◌∷◌, length, refl, subst}
 use Rattle.std.specs.Prelude.{Result, Ok, Err, IfOk, IfErr}
 use Rattle.std.proofs.lemmas.List.{length-map}
 use Rattle.n1ql_ast.specs.declared.ddl.Ddl.{Ddl}
+use Rattle.n1ql_ast.specs.declared.selection.Selection.{Selection}
 use Rattle.n1ql_ast.specs.declared.token_class.TokenClass.{TokenClass}
 use Rattle.n1ql_ast.specs.declared.unresolved_expr.UnresolvedExpr.{UnresolvedExpr}
 use Rattle.n1ql_ast.specs.Faults.{FollowsExpr, Leaves}
-use Rattle.n1ql_ast.specs.Grammar.{IsWhole}
-use Rattle.n1ql_ast.specs.Statements.{FollowsDdl, IsStatement}
+use Rattle.n1ql_ast.specs.Grammar.{IsExpr, IsWhole}
+use Rattle.n1ql_ast.specs.Selections.{FollowsSelect, IsSelect, IsWholeSelect}
+use Rattle.n1ql_ast.specs.Statements.{FollowsDdl, IsDdl, IsStatement}
 use Rattle.n1ql_lex.specs.declared.token.Token.{Token}
 use Rattle.n1ql_lex.specs.Tokens.{IsTokens}
 use Rattle.n1ql_parse.specs.declared.parse_fault.ParseFault.{ParseFault}
@@ -19,10 +21,15 @@ use Rattle.n1ql_parse.specs.inner.Stops.{LeftOf, StopsIn, fault_at}
 use Rattle.n1ql_parse.specs.Input.{class_of, classes_of}
 use Rattle.n1ql_parse.specs.inner.Parser.{parsed, parsed_whole}
 use Rattle.n1ql_parse.specs.Readings.{most_tokens}
+use Rattle.n1ql_parse.specs.inner.Queries.{select_parsed, whole_select}
 use Rattle.n1ql_parse.specs.inner.Statements.{statement_parsed, whole_statement}
 use Rattle.n1ql_parse.specs.inner.Steps.{Outcome, got, stuck, Parser, Gives, and_then, end_of}
-use Rattle.n1ql_parse.proofs.WholeStatements.{statement-reads-exactly, statement-reads-back, statement-faults-stuck, statement-faults-left}
-use Rattle.n1ql_parse.proofs.Whole.{reads-exactly, reads-back, faults-stuck, faults-left}
+use Rattle.n1ql_parse.proofs.Reading.Precedences.{up_to}
+use Rattle.n1ql_parse.proofs.Reading.Prefixes.{Rel, Agrees}
+use Rattle.n1ql_parse.proofs.Reading.Rounds.{whole-parsed}
+use Rattle.n1ql_parse.proofs.Reading.Selects.{select-agrees}
+use Rattle.n1ql_parse.proofs.Reading.Statements.{statement-agrees}
+use Rattle.n1ql_parse.proofs.Reading.Wholes.{whole_read, whole_back, whole_stuck, whole_left}
 
 -- A rule reads a whole list exactly where the language gives it the tree, and stops where the list leaves the language.
 pub record Exact {A : Type 0} (p : Parser A) (Is : List TokenClass → A → Type 0) : Type 0 where
@@ -32,16 +39,23 @@ pub record Exact {A : Type 0} (p : Parser A) (Is : List TokenClass → A → Typ
   pub has_more : (ts : List TokenClass) (x : A) (t : TokenClass) (rest : List TokenClass) → p ts ≡ got x (t ∷ rest) →
       (length (t ∷ rest) ≤ length ts) × Leaves (λ us. (y : A) × Is us y) ts (length ts - length (t ∷ rest))
 
-pub exact-expr : Exact parsed IsWhole
-exact-expr = record { reads = reads-exactly; back = reads-back; is_stuck = faults-stuck; has_more = faults-left }
+-- a rule that agrees with a relation on any tokens is exact
+exact-of : {A : Type 0} (goes : TokenClass → Bool) (R : Rel A) (p : Parser A) → ((ts : List TokenClass) → Agrees goes R ts (p ts)) → Exact p (λ ts x. R ts x [])
+exact-of goes R p agrees = record {
+  reads = whole_read goes R p agrees;
+  back = whole_back goes R p agrees;
+  is_stuck = whole_stuck goes R p agrees;
+  has_more = whole_left goes R p agrees;
+}
+
+pub exact-expr : Exact (parsed false) IsWhole
+exact-expr = exact-of (up_to 7) (IsExpr false) (parsed false) (whole-parsed false)
 
 pub exact-statement : Exact statement_parsed IsStatement
-exact-statement = record {
-  reads = statement-reads-exactly;
-  back = statement-reads-back;
-  is_stuck = statement-faults-stuck;
-  has_more = statement-faults-left;
-}
+exact-statement = exact-of (up_to 12) IsDdl statement_parsed statement-agrees
+
+pub exact-select : Exact select_parsed IsWholeSelect
+exact-select = exact-of (up_to 14) IsSelect select_parsed select-agrees
 
 -- the outcome of a rule with the end behind it
 abbrev ended : {A : Type 0} → Outcome A → Outcome A
@@ -62,34 +76,27 @@ stuck-ended {A} {p} {Is} exact ts (stuck n) left e h =
     let same : n ≡ left = cc in
     subst (λ n. (n ≤ length ts) × Leaves (λ us. (y : A) × Is us y) ts (length ts - n)) same (exact.is_stuck ts n e)
 
-pub expr-read : (ts : List TokenClass) (x : UnresolvedExpr) → parsed_whole ts ≡ got x [] → IsWhole ts x
-unfolding parsed_whole
-expr-read ts x h = read-ended exact-expr ts (parsed ts) x refl h
-
-pub expr-stops : (ts : List TokenClass) (left : ℕ) → parsed_whole ts ≡ stuck left → StopsIn FollowsExpr ts (Fault left)
-unfolding parsed_whole
-expr-stops ts left h = stuck-ended exact-expr ts (parsed ts) left refl h
-
-pub statement-read : (ts : List TokenClass) (d : Ddl) → whole_statement ts ≡ got d [] → IsStatement ts d
-unfolding whole_statement
-statement-read ts d h = read-ended exact-statement ts (statement_parsed ts) d refl h
-
-pub statement-stops : (ts : List TokenClass) (left : ℕ) → whole_statement ts ≡ stuck left → StopsIn FollowsDdl ts (Fault left)
-unfolding whole_statement
-statement-stops ts left h = stuck-ended exact-statement ts (statement_parsed ts) left refl h
-
 -- what a whole list gives: its tree, or where reading stops
+given : {A : Type 0} {p : Parser A} {Is : List TokenClass → A → Type 0} → Exact p Is → (ts classes : List TokenClass) (r : Result A ParseStop) → ts ≡ classes →
+    Gives (ended (p ts)) r [] → IfOk r (Is classes) × IfErr r (StopsIn (λ us. (y : A) × Is us y) classes)
+given {A} {p} {Is} exact ts classes (Ok x) same h = (subst (λ us. Is us x) same (read-ended exact ts (p ts) x refl h), tt)
+given {A} {p} {Is} exact ts classes (Err (Fault left)) same h = (tt, subst (λ us. StopsIn (λ ws. (y : A) × Is ws y) us (Fault left)) same (stuck-ended exact ts (p ts) left refl h))
+given exact ts classes (Err Memory) same h = (tt, tt)
+
 pub expr-given : (ts classes : List TokenClass) (r : Result UnresolvedExpr ParseStop) → ts ≡ classes → Gives (parsed_whole ts) r [] →
     IfOk r (IsWhole classes) × IfErr r (StopsIn FollowsExpr classes)
-expr-given ts classes (Ok x) same h = (subst (λ us. IsWhole us x) same (expr-read ts x h), tt)
-expr-given ts classes (Err (Fault left)) same h = (tt, subst (λ us. StopsIn FollowsExpr us (Fault left)) same (expr-stops ts left h))
-expr-given ts classes (Err Memory) same h = (tt, tt)
+unfolding parsed_whole
+expr-given ts classes r same h = given exact-expr ts classes r same h
 
 pub statement-given : (ts classes : List TokenClass) (r : Result Ddl ParseStop) → ts ≡ classes → Gives (whole_statement ts) r [] →
     IfOk r (IsStatement classes) × IfErr r (StopsIn FollowsDdl classes)
-statement-given ts classes (Ok d) same h = (subst (λ us. IsStatement us d) same (statement-read ts d h), tt)
-statement-given ts classes (Err (Fault left)) same h = (tt, subst (λ us. StopsIn FollowsDdl us (Fault left)) same (statement-stops ts left h))
-statement-given ts classes (Err Memory) same h = (tt, tt)
+unfolding whole_statement
+statement-given ts classes r same h = given exact-statement ts classes r same h
+
+pub select-given : (ts classes : List TokenClass) (r : Result (Selection UnresolvedExpr) ParseStop) → ts ≡ classes → Gives (whole_select ts) r [] →
+    IfOk r (IsWholeSelect classes) × IfErr r (StopsIn FollowsSelect classes)
+unfolding whole_select
+select-given ts classes r same h = given exact-select ts classes r same h
 
 -- reading stops among the tokens of the text
 pub left-of : (Follows : List TokenClass → Type 0) (tokens : List Token) (stop : ParseStop) → StopsIn Follows (classes_of tokens) stop → LeftOf (length tokens) stop

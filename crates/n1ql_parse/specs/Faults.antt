@@ -4,6 +4,7 @@ use Rattle.n1ql_lex.specs.declared.token.Token.{Token}
 use Rattle.n1ql_lex.specs.Tokens.{IsFault, IsTokens}
 use Rattle.n1ql_ast.specs.declared.token_class.TokenClass.{TokenClass}
 use Rattle.n1ql_ast.specs.Faults.{FollowsExpr, Leaves}
+use Rattle.n1ql_ast.specs.Selections.{FollowsSelect}
 use Rattle.n1ql_ast.specs.Statements.{FollowsDdl}
 use Rattle.n1ql_parse.specs.declared.parse_fault.ParseFault.{ParseFault}
 use Rattle.n1ql_parse.specs.declared.parse_fault.ParseFault.TheVariants.{Fault, Memory}
@@ -40,6 +41,10 @@ IsFaultAt text at = IsFaultIn FollowsExpr text at
 abbrev pub IsDdlFaultAt : List ℕ → ℕ → Type 0
 IsDdlFaultAt text at = IsFaultIn FollowsDdl text at
 
+-- the place of the fault of a text that is no SELECT
+abbrev pub IsSelectFaultAt : List ℕ → ℕ → Type 0
+IsSelectFaultAt text at = IsFaultIn FollowsSelect text at
+
 -- what holds of the place of a fault; want of memory may come at any text
 abbrev pub OnPlace : (ℕ → Type 0) → ParseFault → Type 0
 OnPlace Is (Fault at) = Is at
@@ -51,3 +56,6 @@ IsFaultOf text fault = OnPlace (IsFaultAt text) fault
 
 abbrev pub IsDdlFaultOf : List ℕ → ParseFault → Type 0
 IsDdlFaultOf text fault = OnPlace (IsDdlFaultAt text) fault
+
+abbrev pub IsSelectFaultOf : List ℕ → ParseFault → Type 0
+IsSelectFaultOf text fault = OnPlace (IsSelectFaultAt text) fault

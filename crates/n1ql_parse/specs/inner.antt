@@ -3,4 +3,5 @@ pub mod Steps
 pub mod Parser
 pub mod Nests
 pub mod Statements
+pub mod Queries
 pub mod Stops

@@ -45,7 +45,7 @@ fn parsed_whole(alloc: Global, classes: &[TokenClass]) -> Result<Boxed<Unresolve
     ensures { Gives (spec.parsed_whole classes.now) result [] }
 {
     let mut rest = Cursor::new(classes);
-    let unresolved = parsed(alloc, &mut rest)?;
+    let unresolved = parsed(alloc, &mut rest, false)?;
     rest.end()?;
     Ok(unresolved)
 }

@@ -1,3 +1,5 @@
+mod names;
+mod queries;
 mod statements;
 mod tokens;
 mod trees;

@@ -18,7 +18,7 @@ use Rattle.n1ql_parse.specs.declared.expressions.each.Each.{Each}
 use Rattle.n1ql_parse.specs.declared.expressions.precedence.Precedence.TheVariants as precedence
 use Rattle.n1ql_parse.specs.declared.tokens.word.Word.{Word}
 use Rattle.n1ql_parse.specs.inner.Steps.{Outcome, Parser, got, and_then, eat, expect, name}
-use Rattle.n1ql_parse.specs.inner.Parser.{at, enough, parsed}
+use Rattle.n1ql_parse.specs.inner.Parser.{at, enough}
 use Rattle.n1ql_parse.specs.inner.Statements.{parsed_object, parsed_each, may_name, may_using, options, may_with, filter, may_where, array_key, plain_key, key, keys_from, keys, names_from, names, on_keyspace}
 use Rattle.n1ql_parse.proofs.Reading.Prefixes.{Rel, Stops, Within, Completes, Links, Seq, seq, Pure, none_taken, Next, meant, Either, one, other}
 use Rattle.n1ql_parse.proofs.Reading.Combined.{ends, regrouped, either, within_as, within_eq, within_less, within_seq, within_pure, within_either, links_pure, completes_pure, completes_seq}
@@ -28,10 +28,10 @@ use Rattle.n1ql_parse.proofs.Reading.Lookahead.{expr_head}
 use Rattle.n1ql_parse.proofs.Reading.Zero.{zero_const, zero_expr, completes_at}
 use Rattle.n1ql_parse.proofs.Reading.Choices.{within_then, within_may}
 use Rattle.n1ql_parse.proofs.Reading.Forms.{ObjectRel, AreEach, within_object, within_each, within_end, stops_less}
-use Rattle.n1ql_parse.proofs.Reading.Rounds.{nests, whole-parsed}
+use Rattle.n1ql_parse.proofs.Reading.Rounds.{nests, within_parsed}
 use Rattle.n1ql_parse.proofs.Reading.Several.{Several, single, further, several_from, within_several}
 
-and_got : {A : Type 0} (o : Outcome A) → and_then o (λ x us. got x us) ≡ o
+pub and_got : {A : Type 0} (o : Outcome A) → and_then o (λ x us. got x us) ≡ o
 and_got (Outcome.got x us) = refl
 and_got (Outcome.stuck n) = refl
 
@@ -40,9 +40,6 @@ pub apart : {A : Type 0} {R : Rel A} {us vs : List TokenClass} {y : A} (m n : An
 apart m n (behind r) = refl
 
 -- The rules of expressions as parts of statements.
-
-within_parsed : (n : ℕ) → Within n (up_to 7) (IsExpr false) parsed
-within_parsed n = record { agrees = λ ts h. whole-parsed ts }
 
 -- an object whose opening brace was taken
 abbrev pub AreObject : Rel UnresolvedExpr
@@ -98,7 +95,7 @@ no_name vs y r = elim r [ ]
 pub within_names : (n : ℕ) → Within n (up_to 8) IsNames names
 unfolding names
 within_names n = within_as {before = up_to 8} {R = Several OneName}
-    (within_eq (within_several OneName name (completes_name (completes_pure [])) no_name n within_one_name) (λ ts. ap (λ (f : Parser (List (List ℕ))). f ts) (names_are (length ts) [])))
+    (within_eq (within_several OneName name (up_to 7) refl (tighter_stops 7 8 (omega arith)) (completes_name (completes_pure [])) no_name n within_one_name) (λ ts. ap (λ (f : Parser (List (List ℕ))). f ts) (names_are (length ts) [])))
     names_to (λ us vs ys q st. (names_back us vs ys q, st))
 
 pub completes_names : Completes IsNames
@@ -173,7 +170,7 @@ using_from us vs y s.using_none = other none_taken
 using_from us vs y s.using_gsi = one (behind (behind none_taken))
 
 -- nothing, where a keyword that goes on comes next
-none_or_more : {A : Type 0} {x : A} (goes : TokenClass → Bool) (m : AnyKeyword) → goes (Keyword m) ≡ true → (us vs : List TokenClass) (y : A) → Pure x (Keyword m ∷ us) y vs → Stops goes vs → ⊥
+pub none_or_more : {A : Type 0} {x : A} (goes : TokenClass → Bool) (m : AnyKeyword) → goes (Keyword m) ≡ true → (us vs : List TokenClass) (y : A) → Pure x (Keyword m ∷ us) y vs → Stops goes vs → ⊥
 none_or_more goes m on us _ _ none_taken st = let h : true ≡ false = sym on ∙ st in cc
 
 pub within_may_using : {n : ℕ} → Within n (up_to 11) UsingRel may_using
@@ -229,7 +226,7 @@ where_from keyspace us vs y (s.where_some p) = one (behind (seq _ _ p none_taken
 within_filter : {n : ℕ} (keyspace : List ℕ) → Within n (up_to 10) (FilterRel keyspace) (filter keyspace)
 unfolding filter
 within_filter {n = n} keyspace =
-    within_seq (within_parsed n) (λ x. within_pure (Some (on_document keyspace x))) (λ x. links_pure (tighter_stops 7 10 (omega arith))) (λ x. completes_pure (Some (on_document keyspace x)))
+    within_seq (within_parsed n false) (λ x. within_pure (Some (on_document keyspace x))) (λ x. links_pure (tighter_stops 7 10 (omega arith))) (λ x. completes_pure (Some (on_document keyspace x)))
 
 pub within_may_where : {n : ℕ} (keyspace : List ℕ) → Within n (up_to 10) (MayWhere keyspace) (may_where keyspace)
 unfolding may_where
@@ -296,7 +293,7 @@ within_array_key {n = n} keyspace distinct = within_then keyword.Array
 within_plain_key : {n : ℕ} (keyspace : List ℕ) → Within n (up_to 7) (PlainKeyRel keyspace) (plain_key keyspace)
 unfolding plain_key
 within_plain_key {n = n} keyspace =
-    within_seq (within_parsed n) (λ x. within_pure (any_key.Plain (on_document keyspace x))) (λ x. links_pure (λ t e. e)) (λ x. completes_pure (any_key.Plain (on_document keyspace x)))
+    within_seq (within_parsed n false) (λ x. within_pure (any_key.Plain (on_document keyspace x))) (λ x. links_pure (λ t e. e)) (λ x. completes_pure (any_key.Plain (on_document keyspace x)))
 
 no_plain : (keyspace : List ℕ) (us vs : List TokenClass) (y : Key) → PlainKeyRel keyspace (Keyword keyword.Distinct ∷ us) y vs → Stops (up_to 7) vs → ⊥
 no_plain keyspace us vs y (seq x _ p e) st = let h : false ≡ true = expr_head p in cc
@@ -336,7 +333,7 @@ completes_key keyspace = let c = completes_at false precedence.Or in
 pub within_keys : (n : ℕ) (keyspace : List ℕ) → Within n (up_to 8) (IsKeys keyspace) (keys keyspace)
 unfolding keys
 within_keys n keyspace = within_as {before = up_to 8} {R = Several (IsKey keyspace)}
-    (within_eq (within_several (IsKey keyspace) (key keyspace) (completes_key keyspace) (no_key keyspace) n (within_key keyspace)) (λ ts. ap (λ (f : Parser (List Key)). f ts) (keys_are keyspace (length ts) [])))
+    (within_eq (within_several (IsKey keyspace) (key keyspace) (up_to 7) refl (tighter_stops 7 8 (omega arith)) (completes_key keyspace) (no_key keyspace) n (within_key keyspace)) (λ ts. ap (λ (f : Parser (List Key)). f ts) (keys_are keyspace (length ts) [])))
     (keys_to keyspace) (λ us vs ys q st. (keys_back keyspace us vs ys q, st))
 
 pub completes_keys : (keyspace : List ℕ) → Completes (IsKeys keyspace)

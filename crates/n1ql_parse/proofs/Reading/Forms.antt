@@ -112,7 +112,7 @@ each_from : (agg : Bool) (us vs : List TokenClass) (name : List ℕ) (item over 
 each_from agg us vs name item over when (g.each p q r) = seq _ _ p (behind (worded (behind (seq _ _ q (seq _ _ r (behind none_taken))))))
 
 -- a keyword with an expression behind it, or nothing
-abbrev May : Bool → AnyKeyword → Rel (Option UnresolvedExpr)
+abbrev pub May : Bool → AnyKeyword → Rel (Option UnresolvedExpr)
 May agg m = Either (Then m (Seq (IsExpr agg) (λ x. Pure (Some x)))) (Pure None)
 
 else_to : (agg : Bool) (us vs : List TokenClass) (y : Option UnresolvedExpr) → May agg keyword.Else us y vs → MayElse agg us y vs
@@ -182,7 +182,7 @@ completes_arms agg =
     go (seq x _ p (behind (seq y ws q r))) = ends (λ ts (a : Arms) vs. IsArms agg (Keyword keyword.When ∷ ts) a.whens a.thens vs) r (g.arms p q g.arms_done)
 
 module _ (inner : Bool → Precedence → Parser UnresolvedExpr) (agg : Bool) (n : ℕ) (w : Within n (up_to 7) (IsExpr agg) (inner agg precedence.Or)) where
-  within_whole_after : (m : AnyKeyword) (k : ℕ) → 7 ≤ k → up_to k (Keyword m) ≡ true → Within n (up_to k) (May agg m) (whole_after inner agg m)
+  pub within_whole_after : (m : AnyKeyword) (k : ℕ) → 7 ≤ k → up_to k (Keyword m) ≡ true → Within n (up_to k) (May agg m) (whole_after inner agg m)
   unfolding whole_after
   within_whole_after m k h goes = within_may m
       (within_seq w (λ x. within_pure (Some x)) (λ x. links_pure (tighter_stops 7 k h)) (λ x. completes_pure (Some x)))

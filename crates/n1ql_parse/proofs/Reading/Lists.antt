@@ -31,8 +31,9 @@ may_more {A = A} m goes x w = within_eat m w (within_pure x) off
     off : (us vs : List TokenClass) (y : A) → Pure x (Keyword m ∷ us) y vs → Stops (up_to 8) vs → ⊥
     off us _ _ none_taken st = let h : true ≡ false = sym goes ∙ st in cc
 
-pub links_may_more : {A : Type 0} (m : AnyKeyword) → up_to 7 (Keyword m) ≡ false → (x : A) {R : Rel A} → Links (up_to 7) (up_to 8) (Either (Then m R) (Pure x))
-links_may_more m off x = links_either (links_then off) (links_pure (tighter_stops 7 8 (omega arith)))
+pub links_may_more : {A : Type 0} {before : TokenClass → Bool} (m : AnyKeyword) → before (Keyword m) ≡ false → ((t : TokenClass) → up_to 8 t ≡ false → before t ≡ false) → (x : A) {R : Rel A} →
+    Links before (up_to 8) (Either (Then m R) (Pure x))
+links_may_more m off less x = links_either (links_then off) (links_pure less)
 
 empty : {ts : List TokenClass} → length ts < 1 → ts ≡ []
 empty {ts = []} h = refl
@@ -80,7 +81,7 @@ module _ (inner : Bool → Precedence → Parser UnresolvedExpr) (agg : Bool) wh
   within_wholes_from zero w found = within_none (completes_found_exprs found) (no_exprs found)
   within_wholes_from (suc n) w found = within_as {before = up_to 8}
       (within_seq w (λ x. may_more keyword.Comma refl (found ++ x ∷ []) (within_wholes_from n (within_less (omega arith) w) (found ++ x ∷ [])))
-      (λ x. links_may_more keyword.Comma refl (found ++ x ∷ [])) (λ x. completes_other (completes_pure (found ++ x ∷ []))))
+      (λ x. links_may_more keyword.Comma refl (tighter_stops 7 8 (omega arith)) (found ++ x ∷ [])) (λ x. completes_other (completes_pure (found ++ x ∷ []))))
       (exprs_to found) (λ us vs y q st. (exprs_from found us vs y q, st))
 
   exprs_whole : (us vs : List TokenClass) (ys : List UnresolvedExpr) → FoundExprs [] us ys vs → IsExprs agg us ys vs
@@ -151,7 +152,7 @@ module _ (inner : Bool → Precedence → Parser UnresolvedExpr) (agg : Bool) wh
   within_pairs_from zero w found = within_none (completes_found_pairs found) (no_pair found)
   within_pairs_from (suc n) w found = within_as {before = up_to 8}
       (within_seq (within_pair (suc n) w found) (λ p. may_more keyword.Comma refl p (within_pairs_from n (within_less (omega arith) w) p))
-      (λ p. links_may_more keyword.Comma refl p) (λ p. completes_other (completes_pure p)))
+      (λ p. links_may_more keyword.Comma refl (tighter_stops 7 8 (omega arith)) p) (λ p. completes_other (completes_pure p)))
       (pairs_to found) (λ us vs y q st. (pairs_back found us vs y q, st))
 
   abbrev pub ArePairs : Rel ObjectFields
@@ -225,7 +226,7 @@ module _ (inner : Bool → Precedence → Parser UnresolvedExpr) (agg : Bool) wh
   within_arms_from zero w found = within_none (completes_found_arms found) (no_arm found)
   within_arms_from (suc n) w found = within_as {before = up_to 8}
       (within_seq (within_arm (suc (suc n)) w found) (λ a. may_more keyword.When refl a (within_arms_from n (within_less (omega arith) w) a))
-      (λ a. links_may_more keyword.When refl a) (λ a. completes_other (completes_pure a)))
+      (λ a. links_may_more keyword.When refl (tighter_stops 7 8 (omega arith)) a) (λ a. completes_other (completes_pure a)))
       (arms_to found) (λ us vs a q st. (arms_back found us vs a q, st))
 
   -- arms whose first WHEN was taken

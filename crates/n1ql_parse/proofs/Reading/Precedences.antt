@@ -4,7 +4,7 @@ use Rattle.std.proofs.Common.{arith}
 use Rattle.std.proofs.lemmas.Bool.{leb-false, lt-leb}
 use Rattle.n1ql_value.specs.declared.op.Op.{Op}
 use Rattle.n1ql_ast.specs.declared.token_class.TokenClass.{TokenClass}
-use Rattle.n1ql_ast.specs.declared.token_class.TokenClass.TheVariants.{Keyword}
+use Rattle.n1ql_ast.specs.declared.token_class.TokenClass.TheVariants.{Keyword, Name}
 use Rattle.n1ql_ast.specs.declared.keyword.Keyword.{Keyword as AnyKeyword}
 use Rattle.n1ql_ast.specs.declared.keyword.Keyword.TheVariants as keyword
 use Rattle.n1ql_ast.specs.declared.unresolved_expr.UnresolvedExpr.{UnresolvedExpr}
@@ -38,13 +38,25 @@ rank (Keyword keyword.In) = 5
 rank (Keyword keyword.Between) = 5
 rank (Keyword keyword.And) = 6
 rank (Keyword keyword.Or) = 7
+rank (Name text quoted) = 8
+rank (Keyword keyword.As) = 8
+rank (Keyword keyword.Asc) = 8
+rank (Keyword keyword.Desc) = 8
 rank (Keyword keyword.Comma) = 8
 rank (Keyword keyword.When) = 8
+rank (Keyword keyword.Use) = 8
 rank (Keyword keyword.Else) = 9
+rank (Keyword keyword.Left) = 9
+rank (Keyword keyword.Unnest) = 9
 rank (Keyword keyword.Where) = 10
 rank (Keyword keyword.Using) = 11
+rank (Keyword keyword.Group) = 11
+rank (Keyword keyword.Having) = 11
 rank (Keyword keyword.With) = 12
-rank _ = 13
+rank (Keyword keyword.Order) = 12
+rank (Keyword keyword.Limit) = 13
+rank (Keyword keyword.Offset) = 14
+rank _ = 15
 
 -- tokens that go on with an unresolved expression of this tightness
 abbrev pub up_to : ℕ → TokenClass → Bool

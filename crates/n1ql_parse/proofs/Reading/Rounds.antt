@@ -40,6 +40,9 @@ nests (suc fuel) (suc n) agg precedence.Post h = within_path (at fuel) agg n (ne
     (within_primary (at fuel) agg n (nests fuel n agg precedence.Or (omega arith)) (nests fuel n false precedence.Or (omega arith)))
 
 -- a whole expression at the front
-pub whole-parsed : (ts : List TokenClass) → Agrees (up_to 7) (IsExpr false) ts (parsed ts)
+pub whole-parsed : (agg : Bool) (ts : List TokenClass) → Agrees (up_to 7) (IsExpr agg) ts (parsed agg ts)
 unfolding parsed
-whole-parsed ts = (nests (enough ts) (suc (length ts)) false precedence.Or (omega arith)).agrees ts (omega arith)
+whole-parsed agg ts = (nests (enough ts) (suc (length ts)) agg precedence.Or (omega arith)).agrees ts (omega arith)
+
+pub within_parsed : (n : ℕ) (agg : Bool) → Within n (up_to 7) (IsExpr agg) (parsed agg)
+within_parsed n agg = record { agrees = λ ts h. whole-parsed agg ts }

@@ -1,5 +1,5 @@
 -- Things of one class with commas between them.
-use Rattle.std.specs.Prelude.{◌≡◌, ℕ, zero, suc, if◌then◌else◌, List, [], ◌∷◌, ◌++◌, length, refl}
+use Rattle.std.specs.Prelude.{◌≡◌, ℕ, zero, suc, Bool, false, if◌then◌else◌, List, [], ◌∷◌, ◌++◌, length, refl}
 use Rattle.std.proofs.Common.{sym, ◌∙◌, subst, append_assoc, arith}
 use Rattle.n1ql_ast.specs.declared.token_class.TokenClass.{TokenClass}
 use Rattle.n1ql_ast.specs.declared.token_class.TokenClass.TheVariants.{Keyword}
@@ -22,7 +22,9 @@ several_from p zero found = λ ts. stuck (length ts)
 several_from p (suc n) found = λ ts. and_then (p ts) (λ x us. and_then (eat keyword.Comma us)
     (λ more. if more then several_from p n (found ++ x ∷ []) else (λ vs. got (found ++ x ∷ []) vs)))
 
-module _ {A : Type 0} (R : Rel A) (p : Parser A) where
+-- over what may come after one of them
+module _ {A : Type 0} (R : Rel A) (p : Parser A) (before : TokenClass → Bool) (off : before (Keyword keyword.Comma) ≡ false)
+    (less : (t : TokenClass) → up_to 8 t ≡ false → before t ≡ false) where
   data Found (found : List A) (ts : List TokenClass) (ys : List A) (vs : List TokenClass) : Type 0 where
     behind_found : (xs : List A) → ys ≡ found ++ xs → Several R ts xs vs → Found found ts ys vs
 
@@ -47,18 +49,18 @@ module _ {A : Type 0} (R : Rel A) (p : Parser A) where
   none_found none found vs ys (behind_found _ e (single {x = x} r)) = none vs x r
   none_found none found vs ys (behind_found _ e (further {x = x} r q)) = none _ x r
 
-  within_from : Completes R → ((vs : List TokenClass) (y : A) → R [] y vs → ⊥) → (n : ℕ) → Within (suc n) (up_to 7) R p → (found : List A) →
+  within_from : Completes R → ((vs : List TokenClass) (y : A) → R [] y vs → ⊥) → (n : ℕ) → Within (suc n) before R p → (found : List A) →
       Within (suc n) (up_to 8) (Found found) (several_from p n found)
   within_from c none zero w found = within_none (completes_found c found) (none_found none found)
   within_from c none (suc n) w found = within_as {before = up_to 8}
       (within_seq w (λ x. may_more keyword.Comma refl (found ++ x ∷ []) (within_from c none n (within_less (omega arith) w) (found ++ x ∷ [])))
-      (λ x. links_may_more keyword.Comma refl (found ++ x ∷ [])) (λ x. completes_other (completes_pure (found ++ x ∷ []))))
+      (λ x. links_may_more keyword.Comma off less (found ++ x ∷ [])) (λ x. completes_other (completes_pure (found ++ x ∷ []))))
       (several_to found) (λ us vs ys q st. (several_back found us vs ys q, st))
 
   found_none : (us vs : List TokenClass) (ys : List A) → Found [] us ys vs → Several R us ys vs
   found_none us vs ys (behind_found xs e q) = subst (λ zs. Several R us zs vs) (sym e) q
 
-  pub within_several : Completes R → ((vs : List TokenClass) (y : A) → R [] y vs → ⊥) → (n : ℕ) → Within n (up_to 7) R p →
+  pub within_several : Completes R → ((vs : List TokenClass) (y : A) → R [] y vs → ⊥) → (n : ℕ) → Within n before R p →
       Within n (up_to 8) (Several R) (λ ts. several_from p (length ts) [] ts)
   within_several c none n w = within_as {before = up_to 8} {R = Found []}
       (record { agrees = λ ts h. (within_from c none (length ts) (within_less (omega arith) w) []).agrees ts (omega arith) })

@@ -523,13 +523,13 @@ at (suc fuel) agg l = rule (at fuel) agg l
 abbrev pub enough : List TokenClass → ℕ
 enough ts = 8 * length ts + 8
 
--- a whole expression without aggregates at the front of the tokens
-unfoldable pub parsed : Parser UnresolvedExpr
-parsed = λ ts. at (enough ts) false precedence.Or ts
+-- a whole expression at the front of the tokens, in which aggregates may stand or not
+unfoldable pub parsed : Bool → Parser UnresolvedExpr
+parsed agg = λ ts. at (enough ts) agg precedence.Or ts
 
 -- the whole list as an expression
 unfoldable pub parsed_whole : Parser UnresolvedExpr
 parsed_whole = do
-  x ← parsed
+  x ← parsed false
   end
   pure x

@@ -50,7 +50,7 @@ may_with keyspace = do
 -- after WHERE
 unfoldable pub filter : List ℕ → Parser (Option Expr)
 filter keyspace = do
-  x ← parsed
+  x ← parsed false
   pure (Some (on_document keyspace x))
 
 -- [WHERE expr]
@@ -69,7 +69,7 @@ array_key keyspace distinct = do
 -- an expression as a key
 unfoldable pub plain_key : List ℕ → Parser Key
 plain_key keyspace = do
-  x ← parsed
+  x ← parsed false
   pure (any_key.Plain (on_document keyspace x))
 
 -- key

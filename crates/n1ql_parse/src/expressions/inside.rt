@@ -3,6 +3,7 @@
 ghost use Rattle.std.specs.Prelude.{◌≡◌, IfOk};
 ghost use Rattle.n1ql_ast.specs.Names.{inside, outermost, resolved};
 ghost use Rattle.n1ql_parse.specs.inner.Parser as spec;
+ghost use Rattle.n1ql_parse.specs.inner.Queries as queries;
 ghost use Rattle.n1ql_parse.specs.inner.Statements as statements;
 ghost use Rattle.n1ql_parse.specs.inner.Steps.{Gives};
 
@@ -11,7 +12,7 @@ use crate::expressions::grammar::{Grammar, expr_at};
 use crate::expressions::precedence::Precedence;
 use crate::tokens::cursor::Cursor;
 use crate::tokens::parse_stop::ParseStop;
-use n1ql_ast::{Expr, Scope, UnresolvedExpr, resolve};
+use n1ql_ast::{Expr, Keyword, Scope, UnresolvedExpr, UnresolvedExprs, resolve};
 use n1ql_value::{Memory, Text};
 use sqlite_items::Boxed;
 use std::alloc::Global;
@@ -24,13 +25,52 @@ fn enough(tokens: &Cursor<'_>) -> usize
     8 * tokens.rest().len() + 8
 }
 
-/// A whole expression without aggregates.
+/// A whole expression, in which aggregates may stand or not.
 #[tactic(auto, unfolding(crate::specs::inner::Parser::parsed))]
-pub fn parsed(alloc: Global, tokens: &mut Cursor<'_>) -> Result<Boxed<UnresolvedExpr>, ParseStop>
-    ensures { Gives (spec.parsed tokens.old) result tokens.new }
+pub fn parsed(
+    alloc: Global,
+    tokens: &mut Cursor<'_>,
+    agg: bool,
+) -> Result<Boxed<UnresolvedExpr>, ParseStop>
+    ensures { Gives (spec.parsed agg tokens.old) result tokens.new }
 {
     let fuel = enough(tokens);
-    expr_at(alloc, tokens, fuel, false, Precedence::Or)
+    expr_at(alloc, tokens, fuel, agg, Precedence::Or)
+}
+
+/// What comes after a keyword, if that comes next: an expression, in which aggregates may stand or not.
+#[tactic(auto, unfolding(crate::specs::inner::Queries::parsed_after))]
+pub fn parsed_after(
+    alloc: Global,
+    tokens: &mut Cursor<'_>,
+    agg: bool,
+    keyword: Keyword,
+) -> Result<Option<Boxed<UnresolvedExpr>>, ParseStop>
+    ensures { Gives (queries.parsed_after agg keyword tokens.old) result tokens.new }
+{
+    let fuel = enough(tokens);
+    let grammar = Grammar {
+        alloc,
+        fuel,
+        agg,
+        inner: expr_at,
+    };
+    grammar.whole_after(tokens, keyword)
+}
+
+/// Expressions without aggregates, with commas between them.
+#[tactic(auto, unfolding(crate::specs::inner::Queries::parsed_exprs))]
+pub fn parsed_exprs(alloc: Global, tokens: &mut Cursor<'_>) -> Result<UnresolvedExprs, ParseStop>
+    ensures { Gives (queries.parsed_exprs tokens.old) result tokens.new }
+{
+    let fuel = enough(tokens);
+    let grammar = Grammar {
+        alloc,
+        fuel,
+        agg: false,
+        inner: expr_at,
+    };
+    grammar.wholes(tokens)
 }
 
 /// An object without aggregates, after its opening brace.

@@ -24,7 +24,7 @@ impl<
 > Grammar<F> {
     /// Expressions with commas between them.
     #[inline(never)]
-    fn wholes(&self, tokens: &mut Cursor<'_>) -> Result<UnresolvedExprs, ParseStop>
+    pub fn wholes(&self, tokens: &mut Cursor<'_>) -> Result<UnresolvedExprs, ParseStop>
         requires { Nests self.now.fuel (F.pre self.now.inner) (F.post self.now.inner) }
         ensures { Gives (spec.wholes (spec.at self.now.fuel) self.now.agg tokens.old) result tokens.new }
     {

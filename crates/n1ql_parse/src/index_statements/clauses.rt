@@ -26,7 +26,7 @@ pub fn may_using(tokens: &mut Cursor<'_>) -> Result<(), ParseStop>
 fn filter(alloc: Global, keyspace: &str, tokens: &mut Cursor<'_>) -> Result<Option<Expr>, ParseStop>
     ensures { Gives (spec.filter keyspace.now tokens.old) result tokens.new }
 {
-    let unresolved = parsed(alloc, tokens)?;
+    let unresolved = parsed(alloc, tokens, false)?;
     Ok(Some(on_document(alloc, keyspace, unresolved.get())?))
 }
 

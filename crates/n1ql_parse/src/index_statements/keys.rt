@@ -68,7 +68,7 @@ fn array_key(
 fn plain_key(alloc: Global, keyspace: &str, tokens: &mut Cursor<'_>) -> Result<Key, ParseStop>
     ensures { Gives (spec.plain_key keyspace.now tokens.old) result tokens.new }
 {
-    let unresolved = parsed(alloc, tokens)?;
+    let unresolved = parsed(alloc, tokens, false)?;
     Ok(Key::Plain(on_document(alloc, keyspace, unresolved.get())?))
 }
 

@@ -1,4 +1,4 @@
-use crate::tests::trees::show;
+use crate::tests::trees::{show, show_part};
 use n1ql_ast::{Create, Ddl, Expr, Key, Names};
 use n1ql_parse::{ParseFault, ddl};
 use std::alloc::{AllocError, Global};
@@ -97,16 +97,6 @@ const FAULTS: [(&str, usize); 37] = [
     ("DROP PRIMARY INDEX p ON ks", 19),
     ("DROP PRIMARY INDEX ON ks ;", 25),
 ];
-
-fn show_part(out: &mut String, word: &str, e: &Option<Expr>) -> Result<(), AllocError> {
-    match e {
-        Some(e) => {
-            out.push_str(word)?;
-            show(out, e)
-        }
-        None => Ok(()),
-    }
-}
 
 fn show_key(out: &mut String, key: &Key) -> Result<(), AllocError> {
     match key {

@@ -247,6 +247,10 @@ fn show_inside(out: &mut String, e: &Expr) -> Result<(), AllocError> {
             show_next(out, over.get())?;
             show_if_any(out, " when", when)
         }
+        Expr::Agg(agg, x) => {
+            write!(out, "{agg:?}")?;
+            show_if_any(out, "", x)
+        }
         _ => Ok(()),
     }
 }
@@ -285,6 +289,17 @@ fn show_pairs(out: &mut String, names: &Names, xs: &[Expr]) -> Result<(), AllocE
         show(out, &xs[at])?;
     }
     Ok(())
+}
+
+/// A part of a statement behind its word, if there is one.
+pub fn show_part(out: &mut String, word: &str, e: &Option<Expr>) -> Result<(), AllocError> {
+    match e {
+        Some(e) => {
+            out.push_str(word)?;
+            show(out, e)
+        }
+        None => Ok(()),
+    }
 }
 
 fn tree_of(alloc: Global, text: &str) -> Result<String, AllocError> {

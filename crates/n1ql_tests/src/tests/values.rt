@@ -154,10 +154,6 @@ fn texts_have_these_values(rt: HostRuntime) -> Result<(), JsonFault> {
     let doc = read(alloc, DOCUMENT.as_bytes())?;
     let id = Text::of(alloc, "k")?;
     let keys = Vals::new(alloc);
-    let env = Env {
-        id: Some(&id),
-        doc: &doc,
-        keys: &keys,
-    };
+    let env = Env::of_document(&id, &doc, &keys);
     Ok(check_values(&rt, alloc, &env, &VALUES)?)
 }

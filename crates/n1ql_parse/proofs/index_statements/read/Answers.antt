@@ -1,13 +1,12 @@
 use Rattle.std.proofs.Common.{sym, subst}
 use Rattle.n1ql_ast.specs.Statements.{FollowsDdl}
 use Rattle.n1ql_parse.specs.Faults.{IsDdlFaultOf}
-use Rattle.n1ql_parse.specs.Input.{classes_of}
+use Rattle.n1ql_parse.proofs.FormedDefinitions.{ddl-formed}
 use Rattle.n1ql_parse.proofs.Texts.{fault-of}
-use Rattle.n1ql_parse.proofs.WholeStatements.{statement-formed}
 use Rattle.n1ql_parse.proofs.index_statements.read.Goals as goal
 
 pub returns-in-Ok-clause-formed : goal.returns-in-Ok-clause-formed
-returns-in-Ok-clause-formed c = statement-formed c.resolved_variables_are_bound.ensures (classes_of c.args.tokens.now) c.in-Ok.statement c.in-Ok.ensures.read
+returns-in-Ok-clause-formed c = ddl-formed c.resolved_variables_are_bound.ensures c.in-Ok.ensures.read
 
 pub returns-in-Err-clause-fault : goal.returns-in-Err-clause-fault
 returns-in-Err-clause-fault c =
