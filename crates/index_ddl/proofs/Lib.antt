@@ -3,3 +3,4 @@ mod Changes
 mod Places
 mod Numbers
 mod Writes
+pub mod Sending

@@ -4,7 +4,7 @@ use Rattle.std.specs.List.{list_any}
 use Rattle.std.specs.Option.{option_map_or}
 use Rattle.std.proofs.lemmas.List.{append-nil as append_nil}
 use Rattle.index_def.specs.LiveIndexes.{Live, named}
-use Rattle.index_ddl.specs.Catalogs.{first_of_each, numbers_of}
+use Rattle.index_def.specs.LiveIndexes.{first_of_each, numbers_of}
 use Rattle.index_ddl.specs.inner.Writes.{added_once}
 
 filter_push : (p : ℕ → Bool) (xs : List ℕ) (n : ℕ) → filter p (xs ++ n ∷ []) ≡ filter p xs ++ filter p (n ∷ [])

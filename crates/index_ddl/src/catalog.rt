@@ -3,6 +3,8 @@ ghost use Rattle.std.specs.Option.{option_copied, option_map_or};
 ghost use Rattle.std.specs.Arc.{arc_value};
 ghost use Rattle.n1ql_value.specs.Limits.{max_indexes};
 ghost use Rattle.index_def.specs.LiveIndexes.{named, numbered, without, in_state};
+ghost use Rattle.index_def.specs.LiveIndexes as live;
+ghost use Rattle.n1ql_value.specs.declared.state.State.TheVariants.{Building};
 ghost use Rattle.index_ddl.specs.Catalogs as spec;
 ghost use Rattle.index_ddl.specs.inner.Writes.{in_state_at, added_once};
 ghost use Rattle.std.specs.List.{list_all};
@@ -134,7 +136,7 @@ impl Catalog {
         ensures refused { IfSome (spec.creation_fault (arc_value def).name self.old) (λ fault. result ≡ Err fault) }
         ensures accepted { IsNone (spec.creation_fault (arc_value def).name self.old) → IfErr result (λ fault. fault ≡ DdlFault.Memory) }
         ensures number { IfOk result (λ number. number ≡ self.old.made) }
-        ensures created { OnOk result (self.new ≡ spec.with_index (arc_value def) (spec.first_state deferred) self.old) }
+        ensures created { OnOk result (self.new ≡ spec.with_index (arc_value def) (live.state_at_creation deferred) self.old) }
         ensures err { OnErr result (self.new ≡ self.old) }
     {
         if self.named(def.name.as_str()).is_some() {
@@ -144,7 +146,7 @@ impl Catalog {
             return Err(DdlFault::TooMany);
         }
         let number = self.made;
-        match self.push(def, first_state(deferred)) {
+        match self.push(def, state_at_creation(deferred)) {
             Ok(()) => Ok(number),
             Err(Memory) => Err(DdlFault::Memory),
         }
@@ -202,8 +204,8 @@ impl Catalog {
     pub fn build(&mut self, names: &[Text]) -> Result<ListOf<u32>, DdlFault>
         ensures refused { IfSome (spec.build_fault names.now self.old.live) (λ fault. result ≡ Err fault) }
         ensures accepted { IsNone (spec.build_fault names.now self.old.live) → IfErr result (λ fault. fault ≡ DdlFault.Memory) }
-        ensures numbers { IfOk result (λ numbers. numbers ≡ spec.first_of_each (spec.numbers_of names.now self.old.live)) }
-        ensures live { IfOk result (λ numbers. self.new.live ≡ spec.with_building numbers self.old.live) }
+        ensures numbers { IfOk result (λ numbers. numbers ≡ live.first_of_each (live.numbers_of names.now self.old.live)) }
+        ensures live { IfOk result (λ numbers. self.new.live ≡ live.all_in_state numbers Building self.old.live) }
         ensures made { self.new.made ≡ self.old.made }
         ensures err { OnErr result (self.new ≡ self.old) }
     {
@@ -233,7 +235,7 @@ impl Catalog {
 
     /// Whether each name is that of a live index.
     fn are_live(&self, names: &[Text]) -> bool
-        ensures { result ≡ list_all (spec.is_live self.now.live) names.now }
+        ensures { result ≡ list_all (live.is_live self.now.live) names.now }
     {
         for name in names {
             if self.named(name.as_str()).is_none() {
@@ -245,7 +247,7 @@ impl Catalog {
 
     /// Whether each name is that of a deferred index.
     fn are_deferred(&self, names: &[Text]) -> bool
-        ensures { result ≡ list_all (spec.is_live_deferred self.now.live) names.now }
+        ensures { result ≡ list_all (live.is_live_deferred self.now.live) names.now }
     {
         for name in names {
             if !self.is_deferred(name) {
@@ -257,7 +259,7 @@ impl Catalog {
 
     /// Whether this is the name of a deferred index.
     fn is_deferred(&self, name: &Text) -> bool
-        ensures { result ≡ spec.is_live_deferred self.now.live name.now }
+        ensures { result ≡ live.is_live_deferred self.now.live name.now }
     {
         match self.named(name.as_str()) {
             Some(index) => matches!(index.state(), State::Deferred),
@@ -267,7 +269,7 @@ impl Catalog {
 
     /// The numbers of the indexes of these names, each once.
     fn numbers_of(&self, alloc: Global, names: &[Text]) -> Result<ListOf<u32>, Memory>
-        ensures { IfOk result (λ numbers. numbers ≡ spec.first_of_each (spec.numbers_of names.now self.now.live)) }
+        ensures { IfOk result (λ numbers. numbers ≡ live.first_of_each (live.numbers_of names.now self.now.live)) }
     {
         let mut numbers = ListOf::new(alloc);
         for name in names {
@@ -278,7 +280,7 @@ impl Catalog {
 
     /// Puts the indexes of these numbers into the state of being built.
     fn begin_builds(&mut self, numbers: &[u32])
-        ensures live { self.new.live ≡ spec.with_building numbers.now self.old.live }
+        ensures live { self.new.live ≡ live.all_in_state numbers.now Building self.old.live }
         ensures made { self.new.made ≡ self.old.made }
     {
         for number in numbers {
@@ -342,8 +344,8 @@ fn push_once(numbers: &mut ListOf<u32>, number: u32) -> Result<(), Memory>
 }
 
 /// The state of a new index.
-fn first_state(deferred: bool) -> State
-    ensures { result ≡ spec.first_state deferred }
+fn state_at_creation(deferred: bool) -> State
+    ensures { result ≡ live.state_at_creation deferred }
 {
     if deferred {
         State::Deferred

@@ -20,6 +20,13 @@ fn definition(alloc: Global, name: &str) -> Result<Arc<IndexDef>, Memory> {
     )?)
 }
 
+fn may_be_sent<T: Send>() {}
+
+#[test]
+fn a_catalog_may_go_to_another_thread(_rt: HostRuntime) {
+    may_be_sent::<Catalog>();
+}
+
 /// Creates an index of this name.
 fn create(
     alloc: Global,

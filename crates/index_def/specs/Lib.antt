@@ -1,5 +1,6 @@
 pub mod Mentions
 pub mod Definitions
+pub mod Deferral
 pub mod Reasons
 pub mod Forms
 pub mod Keys

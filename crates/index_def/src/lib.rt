@@ -4,6 +4,7 @@
 #![tactic(auto)]
 
 mod checking;
+mod deferral;
 mod definition;
 mod fault;
 pub mod laws;
@@ -13,6 +14,7 @@ mod reasons;
 mod subject;
 
 pub use checking::check;
+pub use deferral::is_build_deferred;
 pub use definition::IndexDef;
 pub use fault::DefFault;
 pub use reason::Reason;

@@ -81,7 +81,7 @@ fn names(alloc: Global) -> Result<(Text, Text), Memory> {
 }
 
 /// The reason why a statement defines no index.
-fn reason_of(alloc: Global, c: &Create) -> Result<Option<Reason>, Memory> {
+pub fn reason_of(alloc: Global, c: &Create) -> Result<Option<Reason>, Memory> {
     match check(alloc, c) {
         Ok(_) => Ok(None),
         Err(DefFault::Bad(reason)) => Ok(Some(reason)),

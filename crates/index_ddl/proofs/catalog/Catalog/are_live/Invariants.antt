@@ -1,6 +1,6 @@
 use Rattle.std.proofs.Common.{◌≡◌, drop}
 use Rattle.std.specs.List.{list_all}
-use Rattle.index_ddl.specs.Catalogs.{is_live}
+use Rattle.index_def.specs.LiveIndexes.{is_live}
 use Rattle.index_ddl.proofs.catalog.Catalog.are_live.Given as goal
 
 abbrev pub invariant-loop-name : goal.invariant-loop-name

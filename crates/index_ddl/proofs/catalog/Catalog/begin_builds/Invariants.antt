@@ -1,7 +1,8 @@
 use Rattle.std.proofs.Common.{◌≡◌, drop}
-use Rattle.index_ddl.specs.Catalogs.{with_building}
+use Rattle.n1ql_value.specs.declared.state.State.TheVariants.{Building}
+use Rattle.index_def.specs.LiveIndexes.{all_in_state}
 use Rattle.index_ddl.proofs.catalog.Catalog.begin_builds.Given as goal
 
 abbrev pub invariant-loop-number : goal.invariant-loop-number
 invariant-loop-number l =
-    (with_building (drop l.number-index l.numbers) l.self.live ≡ with_building l.numbers l.initial.self.live) × (l.self.made ≡ l.initial.self.made)
+    (all_in_state (drop l.number-index l.numbers) Building l.self.live ≡ all_in_state l.numbers Building l.initial.self.live) × (l.self.made ≡ l.initial.self.made)

@@ -2,7 +2,7 @@ use Rattle.std.proofs.Common.{refl, ◌≡◌, ◌+◌, ℕ, suc, List, take, Op
 use Rattle.std.specs.Option.{option_map_or}
 use Rattle.std.proofs.lemmas.Option.{slice_get_read}
 use Rattle.index_def.specs.LiveIndexes.{Live, named}
-use Rattle.index_ddl.specs.Catalogs.{first_of_each, numbers_of}
+use Rattle.index_def.specs.LiveIndexes.{first_of_each, numbers_of}
 use Rattle.index_ddl.specs.inner.Writes.{added_once}
 use Rattle.index_ddl.proofs.Numbers.{numbers_step}
 use Rattle.index_ddl.proofs.catalog.Catalog.numbers_of.Goals as goal

@@ -1,5 +1,5 @@
 use Rattle.std.proofs.Common.{◌≡◌, take}
-use Rattle.index_ddl.specs.Catalogs.{first_of_each, numbers_of}
+use Rattle.index_def.specs.LiveIndexes.{first_of_each, numbers_of}
 use Rattle.index_ddl.proofs.catalog.Catalog.numbers_of.Given as goal
 
 abbrev pub invariant-loop-name : goal.invariant-loop-name
