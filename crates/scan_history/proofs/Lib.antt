@@ -2,3 +2,17 @@ mod StatementTokens
 mod StatementReading
 mod StatementDefinition
 mod StatementText
+mod Lists
+mod LiveLists
+mod Steps
+mod FirstActions
+mod Reached
+mod Consistency
+mod Pivot
+mod Later
+mod Growth
+mod Requests
+mod Commands
+mod ToldStatements
+mod Told
+mod Defined

@@ -62,7 +62,7 @@ form text letter is =
     subst (λ l. (97 ≤ l) × (l ≤ 122) × (text ≡ statement_on l)) c.1
     (leb-true 97 n q.0, leb-true n 122 q.1, (bytes_eq-Decides text (statement_on n)).0 p.1)
 
-reads_as : (text : List ℕ) (letter : ℕ) → defined_field text ≡ Some letter → IsReadingDdl text (ddl.Create (create_on letter))
+pub reads_as : (text : List ℕ) (letter : ℕ) → defined_field text ≡ Some letter → IsReadingDdl text (ddl.Create (create_on letter))
 reads_as text letter is =
     let f = form text letter is in
     let known = and_parts (not (is_blank letter) && is_letter letter) (is_none (reserved_word_of (letter ∷ []))) (each_of is_name 97 26 letters letter f.0 (omega arith)) in

@@ -33,13 +33,12 @@ tokens_on letter =
     token_of (Name (letter ∷ []) false) 22 23 ∷ token_of (Sign (codes ")")) 23 24 ∷ []
 
 -- one more token before others, and one more blank
-one : (letter at : ℕ) (kind : TokenKind) (len : ℕ) (more : List Token) → IsToken (drop at (statement_on letter)) kind len →
-    IsCut (statement_on letter) (at + len) more 24 → IsCut (statement_on letter) at (token_of kind at (at + len) ∷ more) 24
-one letter at kind len more t rest = token len t rest
+pub one : (text : List ℕ) (end at : ℕ) (kind : TokenKind) (len : ℕ) (more : List Token) → IsToken (drop at text) kind len →
+    IsCut text (at + len) more end → IsCut text at (token_of kind at (at + len) ∷ more) end
+one text end at kind len more t rest = token len t rest
 
-gap : (letter at : ℕ) (more : List Token) → at < 24 → is_blank (slice_index (statement_on letter) at) ≡ true →
-    IsCut (statement_on letter) (at + 1) more 24 → IsCut (statement_on letter) at more 24
-gap letter at more inside is rest = blank inside (is) rest
+pub gap : (text : List ℕ) (end at : ℕ) (more : List Token) → at < length text → is_blank (slice_index text at) ≡ true → IsCut text (at + 1) more end → IsCut text at more end
+gap text end at more inside is rest = blank inside (is) rest
 
 create_word : (letter : ℕ) → IsToken (drop 0 (statement_on letter)) (Word (codes "CREATE")) 6
 unfolding opening_of reserved_word_of
@@ -84,15 +83,15 @@ letter_word letter o w r =
 pub tokens_of_statement : (letter : ℕ) → opening_of letter ≡ opening.Word → is_word_byte letter ≡ true → reserved_word_of (letter ∷ []) ≡ None →
     IsTokens (statement_on letter) (tokens_on letter)
 tokens_of_statement letter o w r =
-    one letter 0 _ 6 _ (create_word letter)
-    (gap letter 6 _ (omega arith) refl
-    (one letter 7 _ 5 _ (index_word letter)
-    (gap letter 12 _ (omega arith) refl
-    (one letter 13 _ 2 _ (name_word letter)
-    (gap letter 15 _ (omega arith) refl
-    (one letter 16 _ 2 _ (on_word letter)
-    (gap letter 18 _ (omega arith) refl
-    (one letter 19 _ 2 _ (keyspace_word letter)
-    (one letter 21 _ 1 _ (open_sign letter)
-    (one letter 22 _ 1 _ (letter_word letter o w r)
-    (one letter 23 _ 1 _ (close_sign letter) none)))))))))))
+    one (statement_on letter) 24 0 _ 6 _ (create_word letter)
+    (gap (statement_on letter) 24 6 _ (omega arith) refl
+    (one (statement_on letter) 24 7 _ 5 _ (index_word letter)
+    (gap (statement_on letter) 24 12 _ (omega arith) refl
+    (one (statement_on letter) 24 13 _ 2 _ (name_word letter)
+    (gap (statement_on letter) 24 15 _ (omega arith) refl
+    (one (statement_on letter) 24 16 _ 2 _ (on_word letter)
+    (gap (statement_on letter) 24 18 _ (omega arith) refl
+    (one (statement_on letter) 24 19 _ 2 _ (keyspace_word letter)
+    (one (statement_on letter) 24 21 _ 1 _ (open_sign letter)
+    (one (statement_on letter) 24 22 _ 1 _ (letter_word letter o w r)
+    (one (statement_on letter) 24 23 _ 1 _ (close_sign letter) none)))))))))))

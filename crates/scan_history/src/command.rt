@@ -1,3 +1,4 @@
+use crate::ask::Ask;
 use n1ql_value::{Spans, Text, Value};
 
 /// What a client asks for in one line of a script.
@@ -7,8 +8,8 @@ pub enum Command {
     Upsert { id: Text, doc: Value },
     /// Deletes the document of an id, also where there is none.
     Delete { id: Text },
-    /// Defines an index.
+    /// Creates, builds or drops indexes, by a statement.
     Ddl { text: Text },
     /// Asks for the rows of an index that some span holds.
-    Scan { index: Text, spans: Spans },
+    Scan { index: Text, spans: Spans, ask: Ask },
 }

@@ -1,5 +1,5 @@
 use crate::event::Events;
-use n1ql_value::{ListOf, Text};
+use n1ql_value::{ListOf, State, Text};
 use seq_vector::Vector;
 
 /// The outcome of a script: its history, the texts of its answers in the order of their events, and how its indexes ended.
@@ -15,8 +15,8 @@ pub struct Done {
 pub struct Answered {
     pub c: u32,
     pub k: u32,
-    /// The rows as JSON.
-    pub text: ListOf<u8>,
+    /// The rows as JSON; none where that text is too large.
+    pub text: Option<ListOf<u8>>,
 }
 
 /// The answers of a history.
@@ -27,8 +27,7 @@ pub type AnswerList = ListOf<Answered>;
 pub struct End {
     pub i: u32,
     pub name: Text,
-    /// Whether it went online.
-    pub online: bool,
+    pub state: State,
     /// The vector of its newest snapshot.
     pub vector: Vector,
     /// How many rows that snapshot has.

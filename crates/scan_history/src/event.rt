@@ -1,5 +1,6 @@
 ghost use Rattle.std.specs.Prelude.{◌≡◌};
 
+use crate::why::Why;
 use index_def::IndexDef;
 use n1ql_value::ListOf;
 use seq_vector::Vector;
@@ -19,7 +20,7 @@ pub enum Event {
         k: u32,
         what: Arc<Mutation>,
     },
-    /// An index was created.
+    /// An index was created; a deferred one waits for a BUILD INDEX.
     Define {
         c: u32,
         k: u32,
@@ -27,29 +28,67 @@ pub enum Event {
         deferred: bool,
         def: Arc<IndexDef>,
     },
-    /// A snapshot of an index was published at a vector.
-    Publish {
-        i: u32,
-        at: Arc<Vector>,
+    /// The building of deferred indexes began.
+    Build {
+        c: u32,
+        k: u32,
+        indexes: Numbers,
     },
-    /// The indexes of a creation went online.
+    /// The indexes that were built went online.
     Online {
         c: u32,
         k: u32,
         indexes: Numbers,
     },
-    /// A scan began on an index, with the vector that its answer has to cover.
+    /// A snapshot of an index was published at a vector.
+    Publish {
+        i: u32,
+        at: Arc<Vector>,
+    },
+    /// An index was dropped.
+    Removed {
+        c: u32,
+        k: u32,
+        i: u32,
+    },
+    /// A request began on an index, with the vector that its answer has to cover.
     Start {
         c: u32,
         k: u32,
         i: u32,
         demand: Vector,
     },
-    /// A scan was answered from the snapshot at a vector.
+    /// A request was answered from the snapshot at a vector.
     Answer {
         c: u32,
         k: u32,
         at: Arc<Vector>,
+    },
+    /// The documents that a query needs were picked from the snapshot at a vector.
+    Pick {
+        c: u32,
+        k: u32,
+        at: Arc<Vector>,
+    },
+    /// They were fetched, as they stood at another vector, and the query was answered.
+    Fetch {
+        c: u32,
+        k: u32,
+        at: Arc<Vector>,
+        fetched: Vector,
+    },
+    /// A request has no answer yet: the newest snapshot, at this vector, doesn't cover its demand.
+    NotYet {
+        c: u32,
+        k: u32,
+        have: Arc<Vector>,
+    },
+    /// A command was refused, with a code of `refusals`.
+    Refuse {
+        c: u32,
+        k: u32,
+        code: u8,
+        why: Why,
     },
 }
 

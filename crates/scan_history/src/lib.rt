@@ -1,21 +1,26 @@
 //! Scripts and histories: what clients ask for, what happens, and what a history leaves.
 #![tactic(auto)]
 
+mod ask;
 mod command;
 mod ddl;
 mod done;
 mod event;
 mod kind;
 pub mod laws;
+pub mod refusals;
 mod script;
-#[cfg(test)]
-mod tests;
+mod turn;
 mod what;
+mod why;
 
+pub use ask::Ask;
 pub use command::Command;
 pub use ddl::defined_field;
 pub use done::{AnswerList, Answered, Done, End, EndList};
 pub use event::{Event, Events, Happened, Numbers};
 pub use kind::Kind;
-pub use script::{CommandLists, Commands, Script};
+pub use script::{CommandLists, Commands, Script, Turns};
+pub use turn::Turn;
 pub use what::What;
+pub use why::Why;

@@ -1,4 +1,5 @@
 use crate::command::Command;
+use crate::turn::Turn;
 use n1ql_value::{ListOf, Text};
 
 /// The commands of one client, in the order of their lines.
@@ -6,6 +7,9 @@ pub type Commands = ListOf<Command>;
 
 /// The commands of each client, by its number.
 pub type CommandLists = ListOf<Commands>;
+
+/// The lines of a schedule, in order.
+pub type Turns = ListOf<Turn>;
 
 /// What the lines of a script say.
 #[derive(Drop)]
@@ -22,4 +26,5 @@ pub struct Script {
     pub keyspace: Text,
     /// One list for each client.
     pub commands: CommandLists,
+    pub schedule: Turns,
 }
