@@ -3,15 +3,16 @@ use Rattle.std.proofs.Common.{◌≡◌, ℕ, ◌≤◌, Bool, true, false, Opti
 use Rattle.std.specs.Prelude.{◌&&◌, int_le, unsigned_abs, codes, option_and_then}
 use Rattle.std.specs.Option.{option_map_or, is_some}
 use Rattle.std.proofs.lemmas.Bool.{leb-true}
+use Rattle.n1ql_value.specs.Limits.{max_vbuckets, max_clients, max_workers, max_batch, max_keyspace_bytes}
 use Rattle.n1ql_value.specs.declared.value.Value.{Value}
 use Rattle.n1ql_value.specs.declared.value.Value.TheVariants.{Missing, Null, Bool as Flag, Int, Text, Array, Object}
 use Rattle.script_text.specs.declared.reader.format.member_kind.MemberKind.{MemberKind}
 use Rattle.script_text.specs.declared.reader.format.member_kind.MemberKind.TheVariants as kind
 use Rattle.script_text.specs.declared.reader.format.sizes.Sizes.{Sizes}
 use Rattle.n1ql_value.specs.Kinds.{number_in}
-use Rattle.script_text.specs.Members.{Members, value_at}
+use Rattle.script_text.specs.Members.{Members, value_at, count_at}
 use Rattle.script_text.specs.Rows.{in_range, is_number_within, is_within, header_row}
-use Rattle.script_text.specs.Items.{count_at, no_sizes}
+use Rattle.script_text.specs.Items.{no_sizes}
 
 -- both tests pass
 pub both : (a b : Bool) → (a && b) ≡ true → (a ≡ true) × (b ≡ true)
@@ -63,11 +64,11 @@ needed_bounds sizes least most other (Some v) stands e = number_bounds least mos
 
 -- each member of the header is in its range
 pub record HeaderAdmits (members : Members) : Type 0 where
-  pub vbuckets : Admits no_sizes (kind.Whole (pos 1) (pos 1024)) (value_at (codes "vbuckets") members)
-  pub clients : Admits no_sizes (kind.Whole (pos 1) (pos 64)) (value_at (codes "clients") members)
-  pub keyspace : Admits no_sizes (kind.Text 1 100) (value_at (codes "keyspace") members)
-  pub workers : Admits no_sizes (kind.Whole (pos 0) (pos 16)) (value_at (codes "workers") members)
-  pub batch : Admits no_sizes (kind.Whole (pos 1) (pos 4096)) (value_at (codes "batch") members)
+  pub vbuckets : Admits no_sizes (kind.Whole (pos 1) (pos max_vbuckets)) (value_at (codes "vbuckets") members)
+  pub clients : Admits no_sizes (kind.Whole (pos 1) (pos max_clients)) (value_at (codes "clients") members)
+  pub keyspace : Admits no_sizes (kind.Text 1 max_keyspace_bytes) (value_at (codes "keyspace") members)
+  pub workers : Admits no_sizes (kind.Whole (pos 0) (pos max_workers)) (value_at (codes "workers") members)
+  pub batch : Admits no_sizes (kind.Whole (pos 1) (pos max_batch)) (value_at (codes "batch") members)
 
 pub header_admits : (members : Members) → is_within no_sizes header_row members ≡ true → HeaderAdmits members
 unfolding is_within
@@ -81,11 +82,11 @@ header_admits members e =
     record { vbuckets = b.0; clients = d.0; keyspace = f.0; workers = g.0; batch = h.0 }
 
 -- so its numbers are small
-pub vbuckets-few : (members : Members) → is_within no_sizes header_row members ≡ true → count_at (codes "vbuckets") 0 members ≤ 1024
-vbuckets-few members e = (optional_most no_sizes 1 1024 0 (value_at (codes "vbuckets") members) (omega arith) (header_admits members e).vbuckets)
+pub vbuckets-few : (members : Members) → is_within no_sizes header_row members ≡ true → count_at (codes "vbuckets") 0 members ≤ max_vbuckets
+vbuckets-few members e = (optional_most no_sizes 1 max_vbuckets 0 (value_at (codes "vbuckets") members) (omega arith) (header_admits members e).vbuckets)
 
-pub clients-few : (members : Members) → is_within no_sizes header_row members ≡ true → count_at (codes "clients") 0 members ≤ 64
-clients-few members e = optional_most no_sizes 1 64 0 (value_at (codes "clients") members) (omega arith) (header_admits members e).clients
+pub clients-few : (members : Members) → is_within no_sizes header_row members ≡ true → count_at (codes "clients") 0 members ≤ max_clients
+clients-few members e = optional_most no_sizes 1 max_clients 0 (value_at (codes "clients") members) (omega arith) (header_admits members e).clients
 
-pub workers-few : (members : Members) → is_within no_sizes header_row members ≡ true → count_at (codes "workers") 2 members ≤ 16
-workers-few members e = optional_most no_sizes 0 16 2 (value_at (codes "workers") members) (omega arith) (header_admits members e).workers
+pub workers-few : (members : Members) → is_within no_sizes header_row members ≡ true → count_at (codes "workers") 2 members ≤ max_workers
+workers-few members e = optional_most no_sizes 0 max_workers 2 (value_at (codes "workers") members) (omega arith) (header_admits members e).workers

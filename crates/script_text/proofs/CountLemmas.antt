@@ -3,7 +3,7 @@ use Rattle.std.proofs.Common.{◌≡◌, ℕ, ◌+◌, ◌<◌, ◌≤◌, List,
 use Rattle.std.proofs.lemmas.List.Sums.{fold_more}
 use Rattle.vb_store.specs.declared.mutation.Mutation.{Mutation}
 use Rattle.vb_store.specs.Mutations.{high_of}
-use Rattle.scan_history.specs.Events.{Event, mutate, define, publish, online, start, answer}
+use Rattle.scan_history.specs.Events.{Event, mutate, define, build, online, publish, removed, start, answer, pick, fetch, not_yet, refuse}
 use Rattle.scan_history.specs.Fold.{State, first_state, step, log_step, state_after}
 use Rattle.script_text.specs.Counts.{counted}
 
@@ -14,10 +14,16 @@ RaisesNext n = (log : List Mutation) (m : Mutation) → high_of n (log ++ m ∷ 
 counted-step : (n : ℕ) → RaisesNext n → (log : List Mutation) (e : Event) → high_of n (log_step log e) ≡ counted (high_of n log) e
 counted-step n raises log (mutate c k what) = raises log what
 counted-step n raises log (define c k i deferred def) = refl
-counted-step n raises log (publish i at) = refl
+counted-step n raises log (build c k indexes) = refl
 counted-step n raises log (online c k indexes) = refl
+counted-step n raises log (publish i at) = refl
+counted-step n raises log (removed c k i) = refl
 counted-step n raises log (start c k i demand) = refl
 counted-step n raises log (answer c k at) = refl
+counted-step n raises log (pick c k at) = refl
+counted-step n raises log (fetch c k at fetched) = refl
+counted-step n raises log (not_yet c k have) = refl
+counted-step n raises log (refuse c k code why) = refl
 
 -- the log that events leave
 abbrev pub log_of : List Event → List Mutation
@@ -33,10 +39,16 @@ counted-more n raises events i e old new lt is h g =
 one_event : (log : List Mutation) (e : Event) → length (log_step log e) ≤ length log + 1
 one_event log (mutate c k what) = omega (arith, length-append log (what ∷ []))
 one_event log (define c k i deferred def) = omega arith
-one_event log (publish i at) = omega arith
+one_event log (build c k indexes) = omega arith
 one_event log (online c k indexes) = omega arith
+one_event log (publish i at) = omega arith
+one_event log (removed c k i) = omega arith
 one_event log (start c k i demand) = omega arith
 one_event log (answer c k at) = omega arith
+one_event log (pick c k at) = omega arith
+one_event log (fetch c k at fetched) = omega arith
+one_event log (not_yet c k have) = omega arith
+one_event log (refuse c k code why) = omega arith
 
 length-log : (log : List Mutation) (events : List Event) → length (fold log_step log events) ≤ length log + length events
 length-log log [] = omega arith

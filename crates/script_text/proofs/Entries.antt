@@ -1,5 +1,5 @@
 -- Members and items as the program holds them: lists of values.
-use Rattle.std.proofs.Common.{◌≡◌, ℕ, List, [], ◌∷◌, Bool, map, Option, Some, None, option_map, refl, ap, ap₂, sym, ◌∙◌}
+use Rattle.std.proofs.Common.{◌≡◌, ℕ, List, [], ◌∷◌, Bool, map, Option, Some, None, option_map, unwrap_or, refl, ap, ap₂, sym, ◌∙◌}
 use Rattle.std.specs.Prelude.{◌&&◌}
 use Rattle.std.specs.List.{list_all}
 use Rattle.n1ql_value.specs.declared.text.Text.{Text as Bytes}
@@ -31,3 +31,8 @@ item_answer test values items r e is = e ∙ (each_item-values test values ∙ a
 pub value_at-found : (found : Option Value) (name : List ℕ) (members : Members) → option_map datum_of found ≡ under_name name members → found ≡ value_at name members
 value_at-found None name members e = ap (option_map value_of) e
 value_at-found (Some v) name members e = sym (ap Some (value_of-datum_of v)) ∙ ap (option_map value_of) e
+
+-- so is the value that is taken out
+pub value_at-taken : (found : Option Value) (name : List ℕ) (members : Members) (other : Value) → option_map datum_of found ≡ under_name name members
+    → unwrap_or found other ≡ unwrap_or (value_at name members) other
+value_at-taken found name members other e = ap (λ (o : Option Value). unwrap_or o other) (value_at-found found name members e)

@@ -5,6 +5,7 @@ use Rattle.std.specs.Option.{is_some}
 use Rattle.std.proofs.lemmas.Bool.{leb-true}
 use Rattle.std.proofs.lemmas.Bool.Decides.{Decides-int_eq}
 use Rattle.std.proofs.lemmas.Slice.Eq.{bytes_eq-Decides}
+use Rattle.n1ql_value.specs.Limits.{max_vbuckets, max_clients, max_workers, max_batch, max_keyspace_bytes}
 use Rattle.n1ql_value.specs.declared.value.Value.{Value}
 use Rattle.n1ql_value.specs.declared.value.Value.TheVariants.{Missing, Null, Bool as Flag, Int, Text, Array, Object}
 use Rattle.scan_history.specs.declared.kind.Kind.{Kind}
@@ -56,11 +57,11 @@ unfolding has_shape
 shape-needed row members e = (both _ _ (both _ _ e).0).1
 
 pub record HeaderFits (header : Header) : Type 0 where
-  pub vbuckets : IsWithin 1 1024 header.sizes.vbuckets
-  pub clients : IsWithin 1 64 header.sizes.clients
-  pub workers : header.workers ≤ 16
-  pub batch : IsWithin 1 4096 header.batch
-  pub keyspace : IsWithin 1 100 (length header.keyspace)
+  pub vbuckets : IsWithin 1 max_vbuckets header.sizes.vbuckets
+  pub clients : IsWithin 1 max_clients header.sizes.clients
+  pub workers : header.workers ≤ max_workers
+  pub batch : IsWithin 1 max_batch header.batch
+  pub keyspace : IsWithin 1 max_keyspace_bytes (length header.keyspace)
   pub one_client : header.sizes.clients ≡ 1
   pub built_keyspace : header.keyspace ≡ codes "ks"
 
@@ -78,11 +79,11 @@ header_fits members shape within built =
     let admits = header_admits members within in
     let is = header_built members built in
     record {
-      vbuckets = needed_bounds no_sizes 1 1024 0 (value_at (codes "vbuckets") members) vbuckets.0 admits.vbuckets;
-      clients = needed_bounds no_sizes 1 64 0 (value_at (codes "clients") members) clients.0 admits.clients;
-      workers = (count_bounds no_sizes 0 16 2 (value_at (codes "workers") members) (lit≤ tt) (lit≤ tt) admits.workers).1;
-      batch = count_bounds no_sizes 1 4096 64 (value_at (codes "batch") members) (lit≤ tt) (lit≤ tt) admits.batch;
-      keyspace = text_bounds no_sizes 1 100 (codes "ks") (value_at (codes "keyspace") members) (lit≤ tt, lit≤ tt) admits.keyspace;
+      vbuckets = needed_bounds no_sizes 1 max_vbuckets 0 (value_at (codes "vbuckets") members) vbuckets.0 admits.vbuckets;
+      clients = needed_bounds no_sizes 1 max_clients 0 (value_at (codes "clients") members) clients.0 admits.clients;
+      workers = (count_bounds no_sizes 0 max_workers 2 (value_at (codes "workers") members) (lit≤ tt) (lit≤ tt) admits.workers).1;
+      batch = count_bounds no_sizes 1 max_batch 64 (value_at (codes "batch") members) (lit≤ tt) (lit≤ tt) admits.batch;
+      keyspace = text_bounds no_sizes 1 max_keyspace_bytes (codes "ks") (value_at (codes "keyspace") members) (lit≤ tt, lit≤ tt) admits.keyspace;
       one_client = ap unsigned_abs is.1;
       built_keyspace = is.0;
     }

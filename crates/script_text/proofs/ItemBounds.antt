@@ -1,5 +1,5 @@
 -- What a line after the header that is read says.
-use Rattle.std.proofs.Common.{◌≡◌, ℕ, ◌<◌, ◌≤◌, Bool, true, false, cond, not, List, [], ◌∷◌, length, map, Option, Some, None, option_map, Result, Ok, Err, ℤ, pos, negsuc, refl, arith, subst, leb}
+use Rattle.std.proofs.Common.{◌≡◌, ℕ, ◌<◌, ◌≤◌, Bool, true, false, cond, not, List, [], ◌∷◌, length, map, Option, Some, None, Result, Ok, Err, ℤ, pos, negsuc, refl, arith, subst, leb}
 use borrow.Author.Tests.{ltb-true}
 use Rattle.std.specs.Prelude.{◌&&◌, codes, int_le, int_lt, unsigned_abs}
 use Rattle.std.specs.List.{AllByRecursion}
@@ -11,22 +11,28 @@ use Rattle.n1ql_value.specs.declared.datum.Datum.{Datum}
 use Rattle.n1ql_value.specs.declared.value.Value.{Value}
 use Rattle.n1ql_value.specs.declared.value.Value.TheVariants.{Missing, Null, Bool as Flag, Int, Text, Array, Object}
 use Rattle.n1ql_value.specs.Datum.{value_of}
+use Rattle.n1ql_value.specs.Limits.{max_id_bytes, max_spans, max_ranges}
 use Rattle.scan_history.specs.declared.kind.Kind.{Kind}
 use Rattle.scan_history.specs.declared.kind.Kind.TheVariants as kinds
 use Rattle.scan_history.specs.Ddl.{index_name}
-use Rattle.scan_history.specs.Sound.{IsRange, IsSpan, AreSpans, IsWithinBounds, MayCome}
+use Rattle.scan_history.specs.Sound.{IsRange, IsSpan, AreSpans, IsWithinBounds, IsTurn}
+use Rattle.scan_history.specs.Supported.{MayCome}
 use Rattle.script_text.specs.declared.reader.format.form.Form.{Form}
 use Rattle.script_text.specs.declared.reader.format.form.Form.TheVariants.{Upsert, Delete, Ddl, Scan, Query, Client, Project, Deliver, Lose, Publish, Rewind}
 use Rattle.script_text.specs.declared.reader.script.item.Item.{Item}
+use Rattle.script_text.specs.declared.reader.script.item.Item.TheVariants as item
 use Rattle.script_text.specs.declared.reader.format.member_kind.MemberKind.TheVariants as kind
 use Rattle.script_text.specs.declared.reader.format.sizes.Sizes.{Sizes}
 use Rattle.script_text.specs.Members.{Members, value_at, text_at, each_item}
 use Rattle.script_text.specs.SpanForms.{range_of_value, span_of_value, spans_of_value, is_span_within, are_spans_within}
 use Rattle.script_text.specs.Rows.{in_range, is_number_below, form_of, row_of, has_shape, has_needed, is_within}
 use Rattle.script_text.specs.Supported.{is_supported}
-use Rattle.script_text.specs.Items.{command_of, item_with, item_checked, item_by_form, item_of_line, members_of, and_then}
+use Rattle.script_text.specs.Commands.{command_of}
+use Rattle.script_text.specs.Turns.{turn_of}
+use Rattle.script_text.specs.Items.{item_of, item_checked, item_by_form, item_of_line, members_of, and_then}
 use Rattle.script_text.proofs.Bounds.{both, Admits, count_in}
 use Rattle.script_text.proofs.HeaderBounds.{needed_text_bounds, shape-needed}
+use Rattle.script_text.proofs.RequestBounds.{rewound-length, demand-sized, plain_ask}
 
 incl_bounds : (b d e : Bool) → cond b 0 (cond d 1 (cond e 2 3)) ≤ 3
 incl_bounds true d e = omega arith
@@ -43,7 +49,7 @@ ranges_fit (d ∷ ds) = (range_fits (value_of d), ranges_fit ds)
 
 span_fits : (v : Value) → is_span_within v ≡ true → IsSpan (span_of_value v)
 span_fits (Array ds) e =
-    let few = leb-true (length ds) 16 (both _ _ e).0 in
+    let few = leb-true (length ds) max_ranges (both _ _ e).0 in
     let same : length (map (λ d. range_of_value (value_of d)) ds) ≡ length ds = length-map ds (λ d. range_of_value (value_of d)) in
     (omega arith, ranges_fit ds)
 span_fits Missing e = cc
@@ -59,8 +65,8 @@ each_span_fits (d ∷ ds) e = let p = both (is_span_within (value_of d)) (each_i
 
 spans_fit : (v : Value) → are_spans_within v ≡ true → AreSpans (spans_of_value v)
 spans_fit (Array ds) e =
-    let p = both (leb (length ds) 64) (each_item is_span_within ds) e in
-    let few = leb-true (length ds) 64 p.0 in
+    let p = both (leb (length ds) max_spans) (each_item is_span_within ds) e in
+    let few = leb-true (length ds) max_spans p.0 in
     let same : length (map (λ d. span_of_value (value_of d)) ds) ≡ length ds = length-map ds (λ d. span_of_value (value_of d)) in
     (omega arith, each_span_fits ds p.1)
 spans_fit Missing e = cc
@@ -93,10 +99,40 @@ unfolding in_range
 client_below sizes None stands e = cc
 client_below sizes (Some v) stands e = number_below sizes.clients v e
 
-pub record ItemFits (sizes : Sizes) (defined : Bool) (item : Item) : Type 0 where
-  pub client : item.client < sizes.clients
-  pub bounds : IsWithinBounds item.command
-  pub comes : MayCome defined item.command
+vbucket_below : (sizes : Sizes) (found : Option Value) → is_some found ≡ true → Admits sizes kind.VBucket found → count_in 0 found < sizes.vbuckets
+unfolding in_range
+vbucket_below sizes None stands e = cc
+vbucket_below sizes (Some v) stands e = number_below sizes.vbuckets v e
+
+-- so no number is above theirs
+pub number_most : (end : ℕ) (found : Option Value) → option_map_or (is_number_below end) found true ≡ true → count_in 0 found ≤ end
+number_most end None e = omega arith
+number_most end (Some v) e = let below = number_below end v e in omega (arith, below)
+
+-- the client and the vBucket of a turn are in their ranges
+pub turn_client : (sizes : Sizes) (form : Form) (members : Members) → form ≡ Client → is_within sizes (row_of form) members ≡ true
+    → option_map_or (is_number_below sizes.clients) (value_at (codes "c") members) true ≡ true
+unfolding is_within row_of in_range
+turn_client sizes form members is e =
+    let within : is_within sizes (row_of Client) members ≡ true = subst (λ f. is_within sizes (row_of f) members ≡ true) is e in
+    (both _ _ (both _ _ within).1).0
+
+pub turn_vbucket : (sizes : Sizes) (form : Form) (members : Members) → form ≡ Project → is_within sizes (row_of form) members ≡ true
+    → option_map_or (is_number_below sizes.vbuckets) (value_at (codes "vb") members) true ≡ true
+unfolding is_within row_of in_range
+turn_vbucket sizes form members is e =
+    let within : is_within sizes (row_of Project) members ≡ true = subst (λ f. is_within sizes (row_of f) members ≡ true) is e in
+    (both _ _ (both _ _ within).1).0
+
+-- what a line says is within bounds
+abbrev pub ItemFits : Sizes → Item → Type 0
+ItemFits sizes (item.Command client command) = (client < sizes.clients) × IsWithinBounds sizes.vbuckets command
+ItemFits sizes (item.Turn turn) = IsTurn sizes.vbuckets sizes.clients turn
+
+-- it is of the forms that are built
+abbrev pub ItemComes : Bool → Item → Type 0
+ItemComes defined (item.Command client command) = MayCome defined command
+ItemComes defined (item.Turn turn) = ⊥
 
 same_ok : (a b : Item) (r : Result Item Kind) → r ≡ Ok a → r ≡ Ok b → a ≡ b
 same_ok a b r e f = cc
@@ -105,56 +141,68 @@ is_not : (b : Bool) → not b ≡ true → b ≡ false
 is_not true e = cc
 is_not false e = refl
 
--- what a form says, by its row and by what is built
-form_fits : (sizes : Sizes) (defined : Bool) (form : Form) (members : Members) (item : Item) → has_needed (row_of form) members ≡ true
-    → is_within sizes (row_of form) members ≡ true → is_supported defined form members ≡ true → ok_or (option_map (item_with members) (command_of form members)) kinds.Unbuilt ≡ Ok item → ItemFits sizes defined item
-unfolding row_of is_within is_supported command_of
-form_fits sizes defined Upsert members item stands within built e =
+-- what a form says, by its row
+form_fits : (sizes : Sizes) (form : Form) (members : Members) (found : Item) → has_needed (row_of form) members ≡ true
+    → is_within sizes (row_of form) members ≡ true → ok_or (item_of sizes.vbuckets form members) kinds.Unbuilt ≡ Ok found → ItemFits sizes found
+unfolding row_of is_within item_of command_of turn_of
+form_fits sizes Upsert members found stands within e =
     let s = both _ _ stands in
     let w = both _ _ within in
     let s2 = both _ _ (both _ _ s.1).1 in
     let w2 = both _ _ (both _ _ w.1).1 in
-    subst (ItemFits sizes defined) (same_ok _ item _ refl e) (record {
-      client = client_below sizes (value_at (codes "c") members) s.0 w.0;
-      bounds = needed_text_bounds sizes 1 250 [] (value_at (codes "id") members) s2.0 w2.0;
-      comes = tt;
-    })
-form_fits sizes defined Delete members item stands within built e =
+    subst (ItemFits sizes) (same_ok _ found _ refl e)
+    (client_below sizes (value_at (codes "c") members) s.0 w.0, needed_text_bounds sizes 1 max_id_bytes [] (value_at (codes "id") members) s2.0 w2.0)
+form_fits sizes Delete members found stands within e =
     let s = both _ _ stands in
     let w = both _ _ within in
     let s2 = both _ _ (both _ _ s.1).1 in
     let w2 = both _ _ (both _ _ w.1).1 in
-    subst (ItemFits sizes defined) (same_ok _ item _ refl e) (record {
-      client = client_below sizes (value_at (codes "c") members) s.0 w.0;
-      bounds = needed_text_bounds sizes 1 250 [] (value_at (codes "id") members) s2.0 w2.0;
-      comes = tt;
-    })
-form_fits sizes defined Ddl members item stands within built e =
+    subst (ItemFits sizes) (same_ok _ found _ refl e)
+    (client_below sizes (value_at (codes "c") members) s.0 w.0, needed_text_bounds sizes 1 max_id_bytes [] (value_at (codes "id") members) s2.0 w2.0)
+form_fits sizes Ddl members found stands within e =
     let s = both _ _ stands in
     let w = both _ _ within in
-    let b = both _ _ built in
-    subst (ItemFits sizes defined) (same_ok _ item _ refl e) (record {
-      client = client_below sizes (value_at (codes "c") members) s.0 w.0;
-      bounds = tt;
-      comes = (is_not defined b.0, b.1);
-    })
-form_fits sizes defined Scan members item stands within built e =
+    subst (ItemFits sizes) (same_ok _ found _ refl e) (client_below sizes (value_at (codes "c") members) s.0 w.0, tt)
+form_fits sizes Scan members found stands within e =
     let s = both _ _ stands in
     let w = both _ _ within in
     let w3 = both _ _ (both _ _ (both _ _ w.1).1).1 in
-    let b = both _ _ (both _ _ built).0 in
-    subst (ItemFits sizes defined) (same_ok _ item _ refl e) (record {
-      client = client_below sizes (value_at (codes "c") members) s.0 w.0;
-      bounds = spans_found sizes (value_at (codes "spans") members) w3.0;
-      comes = (b.0, (bytes_eq-Decides (text_at (codes "index") [] members) index_name).0 b.1);
-    })
-form_fits sizes defined Query members item stands within built e = cc
-form_fits sizes defined Client members item stands within built e = cc
-form_fits sizes defined Project members item stands within built e = cc
-form_fits sizes defined Deliver members item stands within built e = cc
-form_fits sizes defined Lose members item stands within built e = cc
-form_fits sizes defined Publish members item stands within built e = cc
-form_fits sizes defined Rewind members item stands within built e = cc
+    subst (ItemFits sizes) (same_ok _ found _ refl e)
+    (client_below sizes (value_at (codes "c") members) s.0 w.0, (spans_found sizes (value_at (codes "spans") members) w3.0, demand-sized sizes.vbuckets members))
+form_fits sizes Query members found stands within e = cc
+form_fits sizes Client members found stands within e =
+    let s = both _ _ (both _ _ stands).1 in
+    let w = both _ _ (both _ _ within).1 in
+    subst (ItemFits sizes) (same_ok _ found _ refl e) (client_below sizes (value_at (codes "c") members) s.0 w.0)
+form_fits sizes Project members found stands within e =
+    let s = both _ _ (both _ _ stands).1 in
+    let w = both _ _ (both _ _ within).1 in
+    subst (ItemFits sizes) (same_ok _ found _ refl e) (vbucket_below sizes (value_at (codes "vb") members) s.0 w.0)
+form_fits sizes Deliver members found stands within e = subst (ItemFits sizes) (same_ok _ found _ refl e) tt
+form_fits sizes Lose members found stands within e = subst (ItemFits sizes) (same_ok _ found _ refl e) tt
+form_fits sizes Publish members found stands within e = subst (ItemFits sizes) (same_ok _ found _ refl e) tt
+form_fits sizes Rewind members found stands within e = subst (ItemFits sizes) (same_ok _ found _ refl e) (rewound-length sizes.vbuckets members)
+
+-- and by what is built
+form_comes : (n : ℕ) (defined : Bool) (form : Form) (members : Members) (found : Item) → is_supported defined form members ≡ true
+    → ok_or (item_of n form members) kinds.Unbuilt ≡ Ok found → ItemComes defined found
+unfolding is_supported item_of command_of turn_of
+form_comes n defined Upsert members found built e = subst (ItemComes defined) (same_ok _ found _ refl e) tt
+form_comes n defined Delete members found built e = subst (ItemComes defined) (same_ok _ found _ refl e) tt
+form_comes n defined Ddl members found built e =
+    let b = both _ _ built in subst (ItemComes defined) (same_ok _ found _ refl e) (is_not defined b.0, b.1)
+form_comes n defined Scan members found built e =
+    let plain = both _ _ built in
+    let b = both _ _ plain.0 in
+    subst (ItemComes defined) (same_ok _ found _ refl e)
+    (b.0, (bytes_eq-Decides (text_at (codes "index") [] members) index_name).0 b.1, plain_ask n members plain.1)
+form_comes n defined Query members found built e = cc
+form_comes n defined Client members found built e = cc
+form_comes n defined Project members found built e = cc
+form_comes n defined Deliver members found built e = cc
+form_comes n defined Lose members found built e = cc
+form_comes n defined Publish members found built e = cc
+form_comes n defined Rewind members found built e = cc
 
 -- each test in turn passed
 item_tests : (shape within built : Bool) (made : Result Item Kind) (item : Item)
@@ -165,22 +213,26 @@ item_tests true false built made item e = cc
 item_tests true true false made item e = cc
 item_tests true true true made item e = (refl, refl, refl, e)
 
-item_checked-fits : (sizes : Sizes) (defined : Bool) (form : Form) (members : Members) (item : Item) → item_checked sizes defined form members ≡ Ok item → ItemFits sizes defined item
+-- both
+abbrev pub ItemIsGood : Sizes → Bool → Item → Type 0
+ItemIsGood sizes defined found = ItemFits sizes found × ItemComes defined found
+
+item_checked-good : (sizes : Sizes) (defined : Bool) (form : Form) (members : Members) (found : Item) → item_checked sizes defined form members ≡ Ok found → ItemIsGood sizes defined found
 unfolding item_checked
-item_checked-fits sizes defined form members item e =
+item_checked-good sizes defined form members found e =
     let p = item_tests (has_shape (row_of form) members) (is_within sizes (row_of form) members) (is_supported defined form members)
-    (ok_or (option_map (item_with members) (command_of form members)) kinds.Unbuilt) item e in
-    form_fits sizes defined form members item (shape-needed (row_of form) members p.0) p.1 p.2 p.3
+    (ok_or (item_of sizes.vbuckets form members) kinds.Unbuilt) found e in
+    (form_fits sizes form members found (shape-needed (row_of form) members p.0) p.1 p.3, form_comes sizes.vbuckets defined form members found p.2 p.3)
 
-after_form : (sizes : Sizes) (defined : Bool) (members : Members) (found : Option Form) (item : Item)
-    → and_then (λ form. item_checked sizes defined form members) (ok_or found kinds.Shape) ≡ Ok item → ItemFits sizes defined item
-after_form sizes defined members (Some form) item e = item_checked-fits sizes defined form members item e
-after_form sizes defined members None item e = cc
+after_form : (sizes : Sizes) (defined : Bool) (members : Members) (form : Option Form) (found : Item)
+    → and_then (λ f. item_checked sizes defined f members) (ok_or form kinds.Shape) ≡ Ok found → ItemIsGood sizes defined found
+after_form sizes defined members (Some form) found e = item_checked-good sizes defined form members found e
+after_form sizes defined members None found e = cc
 
-after_members : (sizes : Sizes) (defined : Bool) (r : Result Members Kind) (item : Item) → and_then (item_by_form sizes defined) r ≡ Ok item → ItemFits sizes defined item
-after_members sizes defined (Ok members) item e = after_form sizes defined members (form_of members) item e
-after_members sizes defined (Err kind) item e = cc
+after_members : (sizes : Sizes) (defined : Bool) (r : Result Members Kind) (found : Item) → and_then (item_by_form sizes defined) r ≡ Ok found → ItemIsGood sizes defined found
+after_members sizes defined (Ok members) found e = after_form sizes defined members (form_of members) found e
+after_members sizes defined (Err kind) found e = cc
 
-pub item_of_line-fits : (sizes : Sizes) (defined : Bool) (line : List ℕ) (item : Item) → item_of_line sizes defined line ≡ Ok item → ItemFits sizes defined item
+pub item_of_line-good : (sizes : Sizes) (defined : Bool) (line : List ℕ) (found : Item) → item_of_line sizes defined line ≡ Ok found → ItemIsGood sizes defined found
 unfolding item_of_line
-item_of_line-fits sizes defined line item e = after_members sizes defined (members_of line) item e
+item_of_line-good sizes defined line found e = after_members sizes defined (members_of line) found e

@@ -5,7 +5,7 @@ use Rattle.scan_history.specs.declared.kind.Kind.{Kind}
 use Rattle.script_text.specs.declared.reader.script.item.Item.{Item}
 use Rattle.script_text.specs.declared.reader.format.sizes.Sizes.{Sizes}
 use Rattle.script_text.specs.Items.{item_of_line}
-use Rattle.script_text.specs.Scripts.{is_ddl, ahead, and_then_lines, items_from}
+use Rattle.script_text.specs.Scripts.{defines, ahead, and_then_lines, items_from}
 
 ahead-none : (r : Result (List Item) (ℕ × Kind)) → r ≡ ahead [] r
 ahead-none (Ok items) = refl
@@ -23,11 +23,11 @@ ahead-more done item (Ok items) = ap Ok (sym (append_assoc done (item ∷ []) it
 ahead-more done item (Err line) = refl
 
 -- one turn over the lines
-pub items_from-turn : (whole : Result (List Item) (ℕ × Kind)) (sizes : Sizes) (done new : List Item) (defined defines : Bool) (line : ℕ × List ℕ) (left lines : List (ℕ × List ℕ)) (item : Item)
+pub items_from-turn : (whole : Result (List Item) (ℕ × Kind)) (sizes : Sizes) (done new : List Item) (defined own : Bool) (line : ℕ × List ℕ) (left lines : List (ℕ × List ℕ)) (item : Item)
     → whole ≡ ahead done (items_from sizes defined left) → left ≡ line ∷ lines → item_of_line sizes defined line.1 ≡ Ok item
-    → defines ≡ is_ddl item.command → new ≡ done ++ item ∷ [] → whole ≡ ahead new (items_from sizes (defined || defines) lines)
-items_from-turn whole sizes done new defined defines line left lines item e steps says ddl push =
+    → own ≡ defines item → new ≡ done ++ item ∷ [] → whole ≡ ahead new (items_from sizes (defined || own) lines)
+items_from-turn whole sizes done new defined own line left lines item e steps says ddl push =
     e ∙ (ap (λ (ls : List (ℕ × List ℕ)). ahead done (items_from sizes defined ls)) steps
-    ∙ (ap (λ (r : Result Item Kind). ahead done (and_then_lines line.0 r (λ i. items_from sizes (defined || is_ddl i.command) lines))) says
-    ∙ (ahead-more done item (items_from sizes (defined || is_ddl item.command) lines)
+    ∙ (ap (λ (r : Result Item Kind). ahead done (and_then_lines line.0 r (λ i. items_from sizes (defined || defines i) lines))) says
+    ∙ (ahead-more done item (items_from sizes (defined || defines item) lines)
     ∙ ap₂ (λ (is : List Item) (b : Bool). ahead is (items_from sizes (defined || b) lines)) (sym push) (sym ddl))))

@@ -1,5 +1,11 @@
+pub mod Decimals
+pub mod VectorTexts
+pub mod ReportMarks
+pub mod SmallNumbers
+pub mod SameReports
 pub mod LineLemmas
 pub mod ReportLemmas
+pub mod DemandLemmas
 pub mod CountLemmas
 pub mod Entries
 pub mod Input
@@ -12,6 +18,9 @@ pub mod Bounds
 pub mod Items
 pub mod ListBounds
 pub mod HeaderBounds
+pub mod Vectors
+pub mod RequestBounds
 pub mod ItemBounds
 pub mod Sound
 pub mod Limits
+pub mod LineLaws

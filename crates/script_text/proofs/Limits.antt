@@ -1,6 +1,7 @@
 -- The reader of scripts names no limit on the input: whoever hands it the bytes has counted them.
 use Rattle.std.proofs.Common.{◌≡◌, ℕ, List, [], ◌∷◌, Bool, true, false, length, subst}
 use Rattle.std.specs.Prelude.{⊤, Result, Ok, Err, ◌*◌, nat_lt, count_by, if◌then◌else◌}
+use Rattle.n1ql_value.specs.Limits.{max_lines, max_product, max_scans}
 use Rattle.scan_history.specs.declared.kind.Kind.{Kind}
 use Rattle.scan_history.specs.declared.what.What.TheVariants.{Input, Lines, Product, Scans}
 use Rattle.script_text.specs.declared.reader.script.header.Header.{Header}
@@ -19,7 +20,7 @@ IsNoInput (bad line kind) = ⊤
 IsNoInput (too_large what limit) = ¬ (what ≡ Input)
 
 of_limits : (a b c : Bool) (header : Header) (items : List Item)
-    → IsNoInput (if a then too_large Lines 65536 else if b then too_large Product 4194304 else if c then too_large Scans 1024 else script (script_with header items))
+    → IsNoInput (if a then too_large Lines max_lines else if b then too_large Product max_product else if c then too_large Scans max_scans else script (script_with header items))
 of_limits true b c header items = λ e. absurd (cc)
 of_limits false true c header items = λ e. absurd (cc)
 of_limits false false true header items = λ e. absurd (cc)
@@ -28,7 +29,7 @@ of_limits false false false header items = tt
 of_items : (header : Header) (items : List Item) → IsNoInput (outcome_in_limits header items)
 unfolding outcome_in_limits
 of_items header items =
-    of_limits (nat_lt 65536 (length items)) (nat_lt 4194304 (header.sizes.vbuckets * length items)) (nat_lt 1024 (count_by is_scan_item items)) header items
+    of_limits (nat_lt max_lines (length items)) (nat_lt max_product (header.sizes.vbuckets * length items)) (nat_lt max_scans (count_by is_scan_item items)) header items
 
 of_result : (header : Header) (r : Result (List Item) (ℕ × Kind)) → IsNoInput (outcome_with_commands header r)
 of_result header (Ok items) = of_items header items

@@ -9,7 +9,10 @@ use Rattle.std.proofs.lemmas.Bool.Decides.{eqb_tells}
 use Rattle.std.proofs.Math.Seq.{drop-cons}
 use Rattle.serde_json.specs.Data.{Members, no_members, member, number, unsigned, put}
 use Rattle.serde_json.specs.Written.{has_float, members_have_float}
-use Rattle.script_text.specs.Lines.{word, joined, member_text, object_of, line_of, with_entries}
+use Rattle.std.specs.Borrow.{Bor}
+use Rattle.script_text.specs.declared.reporting.member.ReportValue.{ReportValue}
+use Rattle.script_text.specs.inner.ReportMembers.{written, named_texts}
+use Rattle.script_text.specs.Lines.{joined, member_text, object_of, line_of, with_entries}
 
 not_zero : (n : ℕ) → eqb (suc n) 0 ≡ false
 not_zero n = elim (eqb_tells (suc n) 0) [ inl w ↦ absurd (omega (arith, w.1)) | inr w ↦ w.0 ]
@@ -27,24 +30,14 @@ two_parts o a b x y p q = q ∙ (ap (λ s. s ++ y) p ∙ append_assoc o x y)
 pub three_parts : (o a b c x y z : List ℕ) → a ≡ o ++ x → b ≡ a ++ y → c ≡ b ++ z → c ≡ o ++ (x ++ (y ++ z))
 three_parts o a b c x y z p q r = r ∙ (ap (λ s. s ++ z) (two_parts o a b x y p q) ∙ (append_assoc o (x ++ y) z ∙ ap (λ s. o ++ s) (append_assoc x y z)))
 
--- a name and its value
-pub named : (o a b name y : List ℕ) → a ≡ o ++ 44 ∷ (word name ++ 58 ∷ []) → b ≡ a ++ y → b ≡ o ++ 44 ∷ member_text (name, y)
-named o a b name y p q =
-    two_parts o a b (44 ∷ (word name ++ 58 ∷ [])) y p q ∙ ap (λ s. o ++ 44 ∷ s) (append_assoc (word name) (58 ∷ []) y)
-
 -- an object that isn't closed
 abbrev pub opened : List (List ℕ × List ℕ) → List ℕ
 opened ms = 123 ∷ joined (map member_text ms)
 
-pub first_member : (o a : List ℕ) (m : List ℕ × List ℕ) → a ≡ o ++ 123 ∷ member_text m → a ≡ o ++ opened (m ∷ [])
-first_member o a m h = h ∙ ap (λ s. o ++ 123 ∷ s) (sym (append-nil (member_text m)))
-
-pub next_member : (o a b : List ℕ) (m : List ℕ × List ℕ) (ms : List (List ℕ × List ℕ)) (n : List ℕ × List ℕ) → a ≡ o ++ opened (m ∷ ms) → b ≡ a ++ 44 ∷ member_text n → b ≡ o ++ opened (m ∷ (ms ++ n ∷ []))
-next_member o a b m ms n h g =
-    let texts : List (List ℕ) = map member_text ms in
-    let more : map member_text (ms ++ n ∷ []) ≡ texts ++ member_text n ∷ [] = map-append member_text ms (n ∷ []) in
-    g ∙ (ap (λ s. s ++ 44 ∷ member_text n) h ∙ (append_assoc o (opened (m ∷ ms)) (44 ∷ member_text n)
-    ∙ ap (λ s. o ++ 123 ∷ s) (flat_map_more (λ v. 44 ∷ v) (member_text m) texts (member_text n) ∙ ap (λ ts. member_text m ++ flat_map (λ v. 44 ∷ v) ts) (sym more))))
+-- members by their texts
+pub written_texts : (ms : List (Bor (List ℕ) × ReportValue)) → map written ms ≡ map member_text (named_texts ms)
+written_texts [] = refl
+written_texts (m ∷ ms) = ap (λ ts. written m ∷ ts) (written_texts ms)
 
 pub end_of_object : (o a b : List ℕ) (ms : List (List ℕ × List ℕ)) → a ≡ o ++ opened ms → b ≡ a ++ 125 ∷ [] → b ≡ o ++ object_of ms
 end_of_object o a b ms h g = two_parts o a b (opened ms) (125 ∷ []) h g

@@ -1,26 +1,23 @@
--- What a line says: the header, or a command of a client; else the first kind of what is wrong with it.
-use Rattle.std.specs.Prelude.{ℕ, pos, List, [], ◌∷◌, codes, unsigned_abs, Bool, not, Option, Some, None, option_map, unwrap_or, Result, Ok, Err, if◌then◌else◌}
-use Rattle.std.specs.Option.{option_map_or, ok_or}
+-- What a line says: the header, or a command of a client, or a turn of the schedule; else the first kind of what is wrong with it.
+use Rattle.std.specs.Prelude.{ℕ, pos, List, codes, Bool, not, Option, option_map, Result, Ok, Err, if◌then◌else◌}
+use Rattle.std.specs.Option.{option_or, ok_or}
 use Rattle.std.specs.Ordering.{int_eq}
 use Rattle.n1ql_value.specs.declared.datum.Datum.{Datum}
-use Rattle.n1ql_value.specs.declared.range.Range.{Range}
-use Rattle.n1ql_value.specs.declared.value.Value.TheVariants as value
 use Rattle.n1ql_value.specs.Datum.{value_of}
 use Rattle.n1ql_json.specs.declared.fault.JsonFault.{JsonFault}
 use Rattle.n1ql_json.specs.declared.fault.JsonFault.TheVariants as json
 use Rattle.n1ql_json.specs.Reads.{read_of}
-use Rattle.scan_history.specs.declared.command.Command.{Command}
-use Rattle.scan_history.specs.declared.command.Command.TheVariants as command
 use Rattle.scan_history.specs.declared.kind.Kind.{Kind}
 use Rattle.scan_history.specs.declared.kind.Kind.TheVariants.{Syntax, Number, Version, Shape, Range as OutOfRange, Unbuilt}
 use Rattle.script_text.specs.declared.reader.format.form.Form.{Form}
-use Rattle.script_text.specs.declared.reader.format.form.Form.TheVariants.{Upsert, Delete, Ddl, Scan, Query, Client, Project, Deliver, Lose, Publish, Rewind}
 use Rattle.script_text.specs.declared.reader.script.header.Header.{Header}
 use Rattle.script_text.specs.declared.reader.script.item.Item.{Item}
+use Rattle.script_text.specs.declared.reader.script.item.Item.TheVariants as item
 use Rattle.script_text.specs.declared.reader.format.sizes.Sizes.{Sizes}
 use Rattle.n1ql_value.specs.Kinds.{object_in}
-use Rattle.script_text.specs.Members.{Members, value_at, text_at, number_at}
-use Rattle.script_text.specs.SpanForms.{spans_of_value}
+use Rattle.script_text.specs.Members.{Members, text_at, number_at, count_at}
+use Rattle.script_text.specs.Commands.{command_of}
+use Rattle.script_text.specs.Turns.{turn_of}
 use Rattle.script_text.specs.Rows.{form_of, row_of, header_row, has_shape, is_within}
 use Rattle.script_text.specs.Supported.{is_header_supported, is_supported}
 
@@ -38,10 +35,6 @@ members_in (Err json.Memory) = Err Syntax
 
 unfoldable pub members_of : List ℕ → Result Members Kind
 members_of line = members_in (read_of line)
-
--- a number as a count: in its range it isn't negative
-abbrev pub count_at : List ℕ → ℕ → Members → ℕ
-count_at name other members = unsigned_abs (number_at name (pos other) members)
 
 -- what the header says
 abbrev pub header_with : Members → Header
@@ -71,27 +64,11 @@ header_checked members =
 unfoldable pub header_of_line : List ℕ → Result Header Kind
 header_of_line line = and_then header_checked (members_of line)
 
--- the spans of a scan: one without ranges, where nothing is said
-abbrev pub spans_at : Members → List (List Range)
-spans_at members = option_map_or spans_of_value (value_at (codes "spans") members) ([] ∷ [])
-
--- the command that a line of a form gives
-unfoldable pub command_of : Form → Members → Option Command
-command_of Upsert members = Some (command.Upsert (text_at (codes "id") [] members) (unwrap_or (value_at (codes "doc") members) value.Missing))
-command_of Delete members = Some (command.Delete (text_at (codes "id") [] members))
-command_of Ddl members = Some (command.Ddl (text_at (codes "q") [] members))
-command_of Scan members = Some (command.Scan (text_at (codes "index") [] members) (spans_at members))
-command_of Query members = None
-command_of Client members = None
-command_of Project members = None
-command_of Deliver members = None
-command_of Lose members = None
-command_of Publish members = None
-command_of Rewind members = None
-
--- a command with the client that it is of
-abbrev pub item_with : Members → Command → Item
-item_with members c = record { client = count_at (codes "c") 0 members; command = c }
+-- a turn, or a command with the client that it is of
+unfoldable pub item_of : ℕ → Form → Members → Option Item
+item_of n form members =
+    option_or (option_map item.Turn (turn_of n form members))
+    (option_map (item.Command (count_at (codes "c") 0 members)) (command_of n form members))
 
 -- a line of a form, where `defined` tells whether a ddl line came before it
 unfoldable pub item_checked : Sizes → Bool → Form → Members → Result Item Kind
@@ -99,7 +76,7 @@ item_checked sizes defined form members =
     if not (has_shape (row_of form) members) then Err Shape
     else if not (is_within sizes (row_of form) members) then Err OutOfRange
     else if not (is_supported defined form members) then Err Unbuilt
-    else ok_or (option_map (item_with members) (command_of form members)) Unbuilt
+    else ok_or (item_of sizes.vbuckets form members) Unbuilt
 
 abbrev pub item_by_form : Sizes → Bool → Members → Result Item Kind
 item_by_form sizes defined members = and_then (λ form. item_checked sizes defined form members) (ok_or (form_of members) Shape)

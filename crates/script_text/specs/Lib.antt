@@ -6,6 +6,9 @@ pub mod Members
 pub mod SparseVectors
 pub mod SpanForms
 pub mod Rows
+pub mod Requests
+pub mod Commands
+pub mod Turns
 pub mod Supported
 pub mod Items
 pub mod Scripts

@@ -4,6 +4,7 @@ use Rattle.std.specs.List.{list_all}
 use Rattle.std.specs.Option.{option_map_or, option_or, is_some}
 use Rattle.std.specs.Str.{bytes_eq}
 use Rattle.n1ql_value.specs.declared.value.Value.{Value}
+use Rattle.n1ql_value.specs.Limits.{max_vbuckets, max_clients, max_workers, max_batch, max_id_bytes, max_keyspace_bytes}
 use Rattle.script_text.specs.declared.reader.format.form.Form.{Form}
 use Rattle.script_text.specs.declared.reader.format.form.Form.TheVariants.{Upsert, Delete, Ddl, Scan, Query, Client, Project, Deliver, Lose, Publish, Rewind}
 use Rattle.script_text.specs.declared.reader.format.member.Member.{Member}
@@ -99,9 +100,9 @@ optional n k = record { name = n; kind = k; needed = false }
 
 abbrev pub header_row : List Member
 header_row =
-    needed name.Gsi (kind.Whole (pos 1) (pos 1)) ∷ needed name.Vbuckets (kind.Whole (pos 1) (pos 1024))
-    ∷ needed name.Clients (kind.Whole (pos 1) (pos 64)) ∷ optional name.Keyspace (kind.Text 1 100)
-    ∷ optional name.Workers (kind.Whole (pos 0) (pos 16)) ∷ optional name.Batch (kind.Whole (pos 1) (pos 4096)) ∷ []
+    needed name.Gsi (kind.Whole (pos 1) (pos 1)) ∷ needed name.Vbuckets (kind.Whole (pos 1) (pos max_vbuckets))
+    ∷ needed name.Clients (kind.Whole (pos 1) (pos max_clients)) ∷ optional name.Keyspace (kind.Text 1 max_keyspace_bytes)
+    ∷ optional name.Workers (kind.Whole (pos 0) (pos max_workers)) ∷ optional name.Batch (kind.Whole (pos 1) (pos max_batch)) ∷ []
 
 -- the form that a line after the header has, by the word under `do` or else under `s`
 abbrev pub command_form : List ℕ → Option Form
@@ -129,8 +130,8 @@ form_of members =
 
 -- the members of a line of a form
 unfoldable pub row_of : Form → List Member
-row_of Upsert = needed name.C kind.Client ∷ needed name.Do kind.AnyText ∷ needed name.Id (kind.Text 1 250) ∷ needed name.Doc kind.AnyValue ∷ []
-row_of Delete = needed name.C kind.Client ∷ needed name.Do kind.AnyText ∷ needed name.Id (kind.Text 1 250) ∷ []
+row_of Upsert = needed name.C kind.Client ∷ needed name.Do kind.AnyText ∷ needed name.Id (kind.Text 1 max_id_bytes) ∷ needed name.Doc kind.AnyValue ∷ []
+row_of Delete = needed name.C kind.Client ∷ needed name.Do kind.AnyText ∷ needed name.Id (kind.Text 1 max_id_bytes) ∷ []
 row_of Ddl = needed name.C kind.Client ∷ needed name.Do kind.AnyText ∷ needed name.Q kind.AnyText ∷ []
 row_of Scan =
     needed name.C kind.Client ∷ needed name.Do kind.AnyText ∷ needed name.Index kind.AnyText ∷ optional name.Spans kind.Spans

@@ -7,8 +7,9 @@ use Rattle.n1ql_value.specs.declared.datum.Datum.{Datum}
 use Rattle.n1ql_value.specs.declared.range.Range.{Range}
 use Rattle.n1ql_value.specs.declared.value.Value.{Value}
 use Rattle.n1ql_value.specs.Datum.{value_of}
+use Rattle.n1ql_value.specs.Limits.{max_spans, max_ranges}
 use Rattle.n1ql_value.specs.Kinds.{array_in, number_in, object_in}
-use Rattle.script_text.specs.Members.{Members, value_at, number_at, each_member, each_item}
+use Rattle.script_text.specs.Members.{Members, no_members, value_at, number_at, each_member, each_item}
 
 -- a range has a low and a high bound, any values, and the number that tells which bounds are in; each may be absent
 abbrev pub is_range_member : List ℕ → Value → Bool
@@ -32,13 +33,13 @@ included members = number_at (codes "incl") (pos 3) members
 abbrev pub is_range_within : Value → Bool
 is_range_within v = option_map_or (λ members. int_le (pos 0) (included members) && int_le (included members) (pos 3)) (object_in v) false
 
--- at most 16 ranges
+-- not too many ranges
 abbrev pub is_span_within : Value → Bool
-is_span_within v = option_map_or (λ ranges. nat_le (length ranges) 16 && each_item is_range_within ranges) (array_in v) false
+is_span_within v = option_map_or (λ ranges. nat_le (length ranges) max_ranges && each_item is_range_within ranges) (array_in v) false
 
--- at most 64 spans
+-- not too many spans
 abbrev pub are_spans_within : Value → Bool
-are_spans_within v = option_map_or (λ spans. nat_le (length spans) 64 && each_item is_span_within spans) (array_in v) false
+are_spans_within v = option_map_or (λ spans. nat_le (length spans) max_spans && each_item is_span_within spans) (array_in v) false
 
 -- the same as ranges count it
 abbrev pub incl_of : ℤ → ℕ
@@ -48,9 +49,6 @@ incl_of z = if int_eq z (pos 0) then 0 else if int_eq z (pos 1) then 1 else if i
 abbrev pub range_with : Members → Range
 range_with members =
     record { low = value_at (codes "low") members; high = value_at (codes "high") members; incl = incl_of (included members) }
-
-abbrev pub no_members : Members
-no_members = []
 
 abbrev pub range_of_value : Value → Range
 range_of_value v = range_with (unwrap_or (object_in v) no_members)

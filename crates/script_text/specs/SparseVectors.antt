@@ -1,10 +1,10 @@
 -- Sparse vectors: objects that name some vBuckets in decimal and give a number for each.
-use Rattle.std.specs.Prelude.{ℕ, pos, ◌+◌, ◌-◌, ◌*◌, ◌==◌, List, fold, length, slice_index, Bool, false, not, ◌&&◌, ◌||◌, nat_le, nat_lt, int_le}
-use Rattle.std.specs.List.{list_all}
+use Rattle.std.specs.Prelude.{ℕ, pos, ◌+◌, ◌-◌, ◌*◌, ◌==◌, List, fold, map, length, decimal, unwrap_or, slice_index, Bool, false, not, ◌&&◌, ◌||◌, nat_le, nat_lt, int_le}
+use Rattle.std.specs.List.{list_all, range_with_len}
 use Rattle.std.specs.Option.{option_map_or, is_some}
 use Rattle.n1ql_value.specs.declared.value.Value.{Value}
 use Rattle.n1ql_value.specs.Kinds.{number_in, object_in}
-use Rattle.script_text.specs.Members.{each_member}
+use Rattle.script_text.specs.Members.{Members, no_members, count_at, each_member}
 
 abbrev pub is_digit : ℕ → Bool
 is_digit b = nat_le 48 b && nat_le b 57
@@ -34,3 +34,10 @@ is_entry_below n name v = nat_lt (number_of_digits name) n && option_map_or (int
 
 abbrev pub is_vector_below : ℕ → Value → Bool
 is_vector_below n v = option_map_or (each_member (is_entry_below n)) (object_in v) false
+
+-- the vector of n vBuckets that entries give: the number under each vBucket's name, and 0 where it isn't named
+abbrev pub vector_of : ℕ → Members → List ℕ
+vector_of n entries = map (λ vb. count_at (decimal vb) 0 entries) (range_with_len 0 n)
+
+abbrev pub vector_of_value : ℕ → Value → List ℕ
+vector_of_value n v = vector_of n (unwrap_or (object_in v) no_members)

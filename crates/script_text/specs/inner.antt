@@ -1,2 +1,4 @@
 -- For private clauses: a reader of the public clauses needs nothing of it.
 pub mod Lines
+pub mod ReportMembers
+pub mod Demands

@@ -1,12 +1,10 @@
 //! Scripts as text: what the bytes of an input say, and the report of a script's history.
 #![tactic(auto)]
 
-mod ends;
-mod events;
-mod high;
-mod lines;
+pub mod laws;
+pub mod line_laws;
 mod reader;
-mod writing;
+mod reporting;
 
 pub use reader::{ScriptFault, read_script};
-pub use writing::report;
+pub use reporting::report;

@@ -1,5 +1,9 @@
-//! Tests of the reader of scripts, in a crate above it, so that they don't prove it again.
+//! Tests of histories, and of scripts and reports as text, in a crate above them, so that they don't prove them again.
 #![tactic(auto)]
 
+#[cfg(test)]
+mod histories;
+#[cfg(test)]
+mod report_lines;
 #[cfg(test)]
 mod tests;

@@ -1,6 +1,7 @@
 use n1ql_json::write;
 use n1ql_value::{Memory, Range, Value};
-use scan_history::{Command, Script, What};
+use scan_coord::Demand;
+use scan_history::{Ask, Command, Script, What};
 use script_text::{ScriptFault, read_script};
 use std::alloc::Global;
 use std::process::Abort;
@@ -20,6 +21,20 @@ fn put_range(out: &mut Vec<u8>, range: &Range) -> Result<(), Memory> {
     put_value(out, &range.high)
 }
 
+/// What a request asks, nothing where it asks for nothing and waits.
+fn put_ask(out: &mut Vec<u8>, ask: &Ask) -> Result<(), Memory> {
+    let demand = match &ask.demand {
+        Demand::NotBounded => "",
+        Demand::AtPlus(_) => "@vector",
+        Demand::Mine => "@mine",
+        Demand::RequestPlus => "@all",
+    };
+    let wait = if ask.wait { "" } else { "!" };
+    out.extend_from_slice(demand.as_bytes())?;
+    out.extend_from_slice(wait.as_bytes())?;
+    Ok(())
+}
+
 fn put_command(out: &mut Vec<u8>, command: &Command) -> Result<(), Memory> {
     match command {
         Command::Upsert { id, doc } => {
@@ -33,7 +48,7 @@ fn put_command(out: &mut Vec<u8>, command: &Command) -> Result<(), Memory> {
             out.extend_from_slice(id.as_str().as_bytes())?;
         }
         Command::Ddl { text } => out.extend_from_slice(text.as_str().as_bytes())?,
-        Command::Scan { index, spans } => {
+        Command::Scan { index, spans, ask } => {
             out.extend_from_slice(b"?")?;
             out.extend_from_slice(index.as_str().as_bytes())?;
             for span in spans.as_slice() {
@@ -45,6 +60,7 @@ fn put_command(out: &mut Vec<u8>, command: &Command) -> Result<(), Memory> {
                 }
                 out.push(b']')?;
             }
+            put_ask(out, ask)?;
         }
     }
     Ok(())
@@ -70,6 +86,9 @@ fn shown(alloc: Global, script: &Script) -> Result<Vec<u8>, Memory> {
             out.push(b' ')?;
             put_command(&mut out, command)?;
         }
+    }
+    if !script.schedule.is_empty() {
+        out.extend_from_slice(b"|schedule")?;
     }
     Ok(out)
 }
@@ -226,22 +245,65 @@ fn scans(rt: HostRuntime) -> Result<(), Fail> {
             r#","spans":[[{},{},{},{},{},{},{},{},{},{},{},{},{},{},{},{},{}]]"#,
             "3 Range",
         ),
-        (
-            r#","consistency":"not_bounded","wait":true"#,
-            "4 1 2 64 ks| CREATE INDEX ix ON ks(x) ?ix[]",
-        ),
-        (r#","wait":false"#, "3 Unbuilt"),
-        (r#","wait":1"#, "3 Shape"),
-        (r#","consistency":"request_plus""#, "3 Unbuilt"),
-        (r#","consistency":"exact""#, "3 Shape"),
-        (r#","at":"mine""#, "3 Shape"),
-        (r#","consistency":"at_plus""#, "3 Shape"),
-        (r#","consistency":"at_plus","at":"mine""#, "3 Unbuilt"),
     ];
     each_is(
         &rt,
         rt.alloc(),
         "{\"gsi\":1,\"vbuckets\":4,\"clients\":1}\n{\"c\":0,\"do\":\"ddl\",\"q\":\"CREATE INDEX ix ON ks(x)\"}\n{\"c\":0,\"do\":\"scan\",\"index\":\"ix\"",
+        &rows,
+        "}",
+    )
+}
+
+#[test]
+fn requests(rt: HostRuntime) -> Result<(), Fail> {
+    let rows = [
+        (
+            r#","consistency":"not_bounded","wait":true"#,
+            "4 1 2 64 ks| CREATE INDEX ix ON ks(x) ?ix[]",
+        ),
+        (r#","wait":false"#, "3 Unbuilt"),
+        (r#","wait":null"#, "3 Shape"),
+        (r#","wait":1"#, "3 Shape"),
+        (r#","consistency":"request_plus""#, "3 Unbuilt"),
+        (r#","consistency":"exact""#, "3 Shape"),
+        (r#","consistency":null"#, "3 Shape"),
+        (r#","at":"mine""#, "3 Shape"),
+        (r#","consistency":"not_bounded","at":null"#, "3 Shape"),
+        (r#","consistency":"request_plus","at":"mine""#, "3 Shape"),
+        (r#","consistency":"at_plus""#, "3 Shape"),
+        (r#","consistency":"at_plus","at":"mine""#, "3 Unbuilt"),
+        (r#","consistency":"at_plus","at":"theirs""#, "3 Shape"),
+        (r#","consistency":"at_plus","at":[0]"#, "3 Shape"),
+        (r#","consistency":"at_plus","at":{}"#, "3 Unbuilt"),
+    ];
+    each_is(
+        &rt,
+        rt.alloc(),
+        "{\"gsi\":1,\"vbuckets\":4,\"clients\":1}\n{\"c\":0,\"do\":\"ddl\",\"q\":\"CREATE INDEX ix ON ks(x)\"}\n{\"c\":0,\"do\":\"scan\",\"index\":\"ix\"",
+        &rows,
+        "}",
+    )
+}
+
+#[test]
+fn queries(rt: HostRuntime) -> Result<(), Fail> {
+    let rows = [
+        (r#","q":"SELECT 1""#, "2 Unbuilt"),
+        (r#","q":"""#, "2 Unbuilt"),
+        (
+            r#","q":"","consistency":"at_plus","at":{"3":7}"#,
+            "2 Unbuilt",
+        ),
+        (r#","q":"","consistency":"at_plus","at":{"4":7}"#, "2 Range"),
+        (r#","q":"","spans":[]"#, "2 Shape"),
+        (r#","q":1"#, "2 Shape"),
+        ("", "2 Shape"),
+    ];
+    each_is(
+        &rt,
+        rt.alloc(),
+        "{\"gsi\":1,\"vbuckets\":4,\"clients\":1}\n{\"c\":0,\"do\":\"query\"",
         &rows,
         "}",
     )
@@ -254,9 +316,12 @@ fn vectors(rt: HostRuntime) -> Result<(), Fail> {
         (r#""4":1"#, "3 Range"),
         (r#""0":-1"#, "3 Range"),
         (r#""0":"1""#, "3 Shape"),
+        (r#""0":1.0"#, "3 Number"),
         (r#""":1"#, "3 Shape"),
         (r#""01":1"#, "3 Shape"),
         (r#""-1":1"#, "3 Shape"),
+        (r#""+1":1"#, "3 Shape"),
+        (r#""4":1,"x":1"#, "3 Shape"),
         (r#""99999999999999999999":1"#, "3 Range"),
     ];
     each_is(
@@ -271,24 +336,37 @@ fn vectors(rt: HostRuntime) -> Result<(), Fail> {
 #[test]
 fn schedules(rt: HostRuntime) -> Result<(), Fail> {
     let rows = [
-        (r#"{"s":"client","c":0}"#, "2 Unbuilt"),
-        (r#"{"s":"client","c":1}"#, "2 Range"),
-        (r#"{"s":"wait"}"#, "2 Shape"),
-        (r#"{"s":"project","vb":4,"index":"ix"}"#, "2 Range"),
-        (r#"{"s":"project","index":"ix"}"#, "2 Shape"),
-        (r#"{"s":"deliver","index":"ix"}"#, "2 Unbuilt"),
-        (r#"{"s":"deliver","index":"ix","place":-1}"#, "2 Range"),
-        (r#"{"s":"lose","place":0}"#, "2 Shape"),
-        (r#"{"s":"publish","index":"ix","c":0}"#, "2 Shape"),
-        (r#"{"s":"rewind","to":{"4":0}}"#, "2 Range"),
-        (r#"{"s":"rewind","to":"mine"}"#, "2 Shape"),
+        (r#""client","c":0"#, "2 Unbuilt"),
+        (r#""client","c":1"#, "2 Range"),
+        (r#""client""#, "2 Shape"),
+        (r#""wait""#, "2 Shape"),
+        (r#""project","vb":3"#, "2 Unbuilt"),
+        (r#""project","vb":0,"index":"ix""#, "2 Unbuilt"),
+        (r#""project","vb":4,"index":"ix""#, "2 Range"),
+        (r#""project","vb":-1"#, "2 Range"),
+        (r#""project","index":"ix""#, "2 Shape"),
+        (r#""project","vb":0,"index":0"#, "2 Shape"),
+        (r#""deliver","index":"ix""#, "2 Unbuilt"),
+        (r#""deliver","index":"ix","place":2"#, "2 Unbuilt"),
+        (r#""deliver","index":"ix","place":-1"#, "2 Range"),
+        (r#""deliver","index":"ix","place":null"#, "2 Shape"),
+        (r#""lose","index":"","place":0"#, "2 Unbuilt"),
+        (r#""lose","place":0"#, "2 Shape"),
+        (r#""publish","index":"ix""#, "2 Unbuilt"),
+        (r#""publish","index":"ix","c":0"#, "2 Shape"),
+        (r#""rewind","to":{}"#, "2 Unbuilt"),
+        (r#""rewind","to":{"3":1},"index":"ix""#, "2 Unbuilt"),
+        (r#""rewind","to":{"4":0}"#, "2 Range"),
+        (r#""rewind","to":"mine""#, "2 Shape"),
+        (r#""rewind""#, "2 Shape"),
+        (r#""client","c":0,"do":"delete""#, "2 Shape"),
     ];
     each_is(
         &rt,
         rt.alloc(),
-        "{\"gsi\":1,\"vbuckets\":4,\"clients\":1}\n",
+        "{\"gsi\":1,\"vbuckets\":4,\"clients\":1}\n{\"s\":",
         &rows,
-        "",
+        "}",
     )
 }
 

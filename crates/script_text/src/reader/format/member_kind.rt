@@ -115,7 +115,7 @@ fn is_consistency(value: &Value) -> bool
     is_word("not_bounded", value) || is_word("at_plus", value) || is_word("request_plus", value)
 }
 
-fn is_mine(value: &Value) -> bool
+pub(crate) fn is_mine(value: &Value) -> bool
     ensures { result ≡ is_mine value.now }
 {
     is_word("mine", value)

@@ -3,6 +3,9 @@
 use crate::reader::format::member::Member;
 use crate::reader::format::member_kind::MemberKind;
 use crate::reader::format::name::Name;
+use n1ql_value::limits::{
+    MAX_BATCH, MAX_CLIENTS, MAX_ID_BYTES, MAX_KEYSPACE_BYTES, MAX_VBUCKETS, MAX_WORKERS,
+};
 
 pub(crate) static HEADER: [Member; 6] = [GSI, VBUCKETS, CLIENTS, KEYSPACE, WORKERS, BATCH];
 
@@ -38,14 +41,17 @@ const VBUCKETS: Member = Member {
     name: Name::Vbuckets,
     kind: MemberKind::Whole {
         least: 1,
-        most: 1024,
+        most: MAX_VBUCKETS as i64,
     },
     needed: true,
 };
 
 const CLIENTS: Member = Member {
     name: Name::Clients,
-    kind: MemberKind::Whole { least: 1, most: 64 },
+    kind: MemberKind::Whole {
+        least: 1,
+        most: MAX_CLIENTS as i64,
+    },
     needed: true,
 };
 
@@ -53,14 +59,17 @@ const KEYSPACE: Member = Member {
     name: Name::Keyspace,
     kind: MemberKind::Text {
         least: 1,
-        most: 100,
+        most: MAX_KEYSPACE_BYTES,
     },
     needed: false,
 };
 
 const WORKERS: Member = Member {
     name: Name::Workers,
-    kind: MemberKind::Whole { least: 0, most: 16 },
+    kind: MemberKind::Whole {
+        least: 0,
+        most: MAX_WORKERS as i64,
+    },
     needed: false,
 };
 
@@ -68,7 +77,7 @@ const BATCH: Member = Member {
     name: Name::Batch,
     kind: MemberKind::Whole {
         least: 1,
-        most: 4096,
+        most: MAX_BATCH as i64,
     },
     needed: false,
 };
@@ -89,7 +98,7 @@ const ID: Member = Member {
     name: Name::Id,
     kind: MemberKind::Text {
         least: 1,
-        most: 250,
+        most: MAX_ID_BYTES,
     },
     needed: true,
 };

@@ -1,10 +1,11 @@
 ghost use Rattle.std.specs.Prelude.{◌≡◌, false};
-ghost use Rattle.script_text.specs.inner.Lines.{LinesReadAs};
-ghost use Rattle.script_text.specs.Scripts.{is_ddl, items_from};
+ghost use Rattle.script_text.specs.inner.Lines.{LinesReadAs, IsVBucketCount};
+ghost use Rattle.script_text.specs.Scripts.{is_ddl, defines, items_from};
 
 use crate::reader::format::sizes::Sizes;
 use crate::reader::script::input::Lines;
-use crate::reader::script::item::{Item, read_command_line};
+use crate::reader::script::item::Item;
+use crate::reader::script::item_line::read_item_line;
 use crate::reader::script::line_fault::LineFault;
 use crate::reader::script::script_fault::ScriptFault;
 use n1ql_value::ListOf;
@@ -17,14 +18,15 @@ pub(crate) fn items_from(
     sizes: Sizes,
     lines: Lines<'_>,
 ) -> Result<ListOf<Item>, ScriptFault>
+    requires { IsVBucketCount sizes.vbuckets }
     ensures { LinesReadAs (items_from sizes false lines.entry) result }
 {
     let mut items = ListOf::new(alloc);
     let mut defined = false;
     'lines: for line in lines {
-        match read_command_line(alloc, sizes, defined, line.bytes) {
+        match read_item_line(alloc, sizes, defined, line.bytes) {
             Ok(item) => {
-                defined |= is_ddl(&item.command);
+                defined |= defines(&item);
                 items.push(item)?;
             }
             Err(LineFault::Bad(kind)) => {
@@ -37,6 +39,16 @@ pub(crate) fn items_from(
         }
     }
     Ok(items)
+}
+
+/// Whether a line defines an index.
+fn defines(item: &Item) -> bool
+    ensures { result ≡ defines item.now }
+{
+    match item {
+        Item::Command { command, .. } => is_ddl(command),
+        Item::Turn { .. } => false,
+    }
 }
 
 fn is_ddl(command: &Command) -> bool

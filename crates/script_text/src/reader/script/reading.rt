@@ -1,6 +1,8 @@
 ghost use Rattle.std.specs.Prelude.{◌≡◌, ℕ, IfOk, Err, count_by, false};
-ghost use Rattle.scan_history.specs.Sound.{IsSound, IsSupported};
+ghost use Rattle.scan_history.specs.Sound.{is_scan, IsSound};
+ghost use Rattle.scan_history.specs.Supported.{IsSupported};
 ghost use Rattle.script_text.specs.Items.{header_of_line};
+ghost use Rattle.script_text.specs.inner.Lines.{IsVBucketCount};
 ghost use Rattle.script_text.specs.Reading.{ReadsAs};
 ghost use Rattle.script_text.specs.Scripts.{script_of, outcome_of, outcome_with_header, outcome_with_commands, outcome_in_limits, items_from, script_with, is_scan_item};
 
@@ -11,18 +13,10 @@ use crate::reader::script::items::items_from;
 use crate::reader::script::line_fault::LineFault;
 use crate::reader::script::lists::lists_of;
 use crate::reader::script::script_fault::ScriptFault;
+use n1ql_value::limits::{MAX_LINES, MAX_PRODUCT, MAX_SCANS};
 use n1ql_value::{ListOf, Memory};
 use scan_history::{Command, Kind, Script, What};
 use std::alloc::Global;
-
-/// How many lines a script has at most beside the header and blank ones.
-const LINES_LIMIT: u64 = 65_536;
-
-/// How much the vBuckets times those lines are at most.
-const PRODUCT_LIMIT: u64 = 4_194_304;
-
-/// How many scans and queries a script has at most.
-const SCANS_LIMIT: u64 = 1_024;
 
 /// The script that an input is: a JSON object (RFC 8259) a line, the header first. Blank lines are numbered and skipped.
 ///
@@ -58,7 +52,7 @@ fn read_header_line(alloc: Global, line: Line<'_>, lines: Lines<'_>) -> Result<S
     ensures { ReadsAs (outcome_with_header line.entry.number lines.entry (header_of_line line.entry.bytes.now)) result }
 {
     match read_header(alloc, line.bytes) {
-        Ok(header) => read_command_lines(alloc, header, lines),
+        Ok(header) => read_item_lines(alloc, header, lines),
         Err(LineFault::Bad(kind)) => Err(ScriptFault::Line {
             line: line.number,
             kind,
@@ -67,11 +61,8 @@ fn read_header_line(alloc: Global, line: Line<'_>, lines: Lines<'_>) -> Result<S
     }
 }
 
-fn read_command_lines(
-    alloc: Global,
-    header: Header,
-    lines: Lines<'_>,
-) -> Result<Script, ScriptFault>
+fn read_item_lines(alloc: Global, header: Header, lines: Lines<'_>) -> Result<Script, ScriptFault>
+    requires { IsVBucketCount header.sizes.vbuckets }
     ensures { ReadsAs (outcome_with_commands header (items_from header.sizes false lines.entry)) result }
 {
     let items = items_from(alloc, header.sizes, lines)?;
@@ -83,22 +74,22 @@ fn within_limits(alloc: Global, header: Header, items: ListOf<Item>) -> Result<S
     ensures { ReadsAs (outcome_in_limits header items) result }
 {
     let lines = items.len() as u64;
-    if lines > LINES_LIMIT {
+    if lines > MAX_LINES as u64 {
         return Err(ScriptFault::TooLarge {
             what: What::Lines,
-            limit: LINES_LIMIT,
+            limit: MAX_LINES as u64,
         });
     }
-    if u64::from(header.sizes.vbuckets) * lines > PRODUCT_LIMIT {
+    if u64::from(header.sizes.vbuckets) * lines > MAX_PRODUCT as u64 {
         return Err(ScriptFault::TooLarge {
             what: What::Product,
-            limit: PRODUCT_LIMIT,
+            limit: MAX_PRODUCT as u64,
         });
     }
-    if scans_in(items.as_slice()) > SCANS_LIMIT {
+    if scans_in(items.as_slice()) > MAX_SCANS as u64 {
         return Err(ScriptFault::TooLarge {
             what: What::Scans,
-            limit: SCANS_LIMIT,
+            limit: MAX_SCANS as u64,
         });
     }
     Ok(assemble(alloc, header, items)?)
@@ -120,7 +111,16 @@ fn scans_in(items: &[Item]) -> u64
 fn is_scan_item(item: &Item) -> bool
     ensures { result ≡ is_scan_item item.now }
 {
-    matches!(item.command, Command::Scan { .. })
+    match item {
+        Item::Command { command, .. } => is_scan(command),
+        Item::Turn { .. } => false,
+    }
+}
+
+fn is_scan(command: &Command) -> bool
+    ensures { result ≡ is_scan command.now }
+{
+    matches!(command, Command::Scan { .. })
 }
 
 fn assemble(alloc: Global, header: Header, items: ListOf<Item>) -> Result<Script, Memory>
@@ -132,12 +132,14 @@ fn assemble(alloc: Global, header: Header, items: ListOf<Item>) -> Result<Script
         batch,
         keyspace,
     } = header;
+    let (commands, schedule) = lists_of(alloc, sizes.clients, items)?;
     Ok(Script {
         vbuckets: sizes.vbuckets,
         clients: sizes.clients,
         workers,
         batch,
         keyspace,
-        commands: lists_of(alloc, sizes.clients, items)?,
+        commands,
+        schedule,
     })
 }

@@ -1,8 +1,7 @@
 ghost use Rattle.std.specs.Prelude.{◌≡◌};
 ghost use Rattle.std.specs.Option.{option_copied};
-ghost use Rattle.script_text.specs.Members.{value_at, text_at, number_at, flag_at};
+ghost use Rattle.script_text.specs.Members.{value_at, text_at, number_at, flag_at, count_at};
 ghost use Rattle.script_text.specs.Rows.{spelling};
-ghost use Rattle.script_text.specs.Items.{count_at};
 
 use crate::reader::format::name::Name;
 use n1ql_value::{Pairs, Value};
@@ -11,7 +10,7 @@ use n1ql_value::{Pairs, Value};
 pub(crate) fn value_at<'a>(members: &'a Pairs, name: Name) -> Option<&'a Value>
     ensures { option_copied result ≡ value_at (spelling name) members.now }
 {
-    members.get(name.as_str())
+    value_under(members, name.as_str())
 }
 
 /// The text of the member with a name, or the other one where no text stands there.
@@ -49,4 +48,21 @@ pub(crate) fn count_at(members: &Pairs, name: Name, other: u32) -> u64
     ensures { result ≡ count_at (spelling name) other members.now }
 {
     number_at(members, name, i64::from(other)).unsigned_abs()
+}
+
+/// The magnitude of the number under a name, or the other one where no number stands there.
+pub(crate) fn count_under(members: &Pairs, name: &str, other: u32) -> u64
+    ensures { result ≡ count_at name.now other members.now }
+{
+    match value_under(members, name) {
+        Some(Value::Int(number)) => number.unsigned_abs(),
+        _ => u64::from(other),
+    }
+}
+
+/// The value under a name.
+fn value_under<'a>(members: &'a Pairs, name: &str) -> Option<&'a Value>
+    ensures { option_copied result ≡ value_at name.now members.now }
+{
+    members.get(name)
 }

@@ -7,6 +7,7 @@ ghost use Rattle.script_text.specs.SpanForms.{is_range_member, is_range, is_span
 use crate::reader::format::member_kind::is_number;
 use crate::reader::format::name::Name;
 use crate::reader::values::members::number_at;
+use n1ql_value::limits::{MAX_RANGES, MAX_SPANS};
 use n1ql_value::{Pairs, Text, Vals, Value};
 
 /// Whether a value is a list of spans.
@@ -86,7 +87,7 @@ pub(crate) fn are_spans_within(value: &Value) -> bool
     ensures { result ≡ are_spans_within value.now }
 {
     match value {
-        Value::Array(items) => items.len() <= 64 && items_are_spans_within(items),
+        Value::Array(items) => items.len() <= MAX_SPANS && items_are_spans_within(items),
         _ => false,
     }
 }
@@ -107,7 +108,7 @@ fn is_span_within(value: &Value) -> bool
     ensures { result ≡ is_span_within value.now }
 {
     match value {
-        Value::Array(items) => items.len() <= 16 && items_are_ranges_within(items),
+        Value::Array(items) => items.len() <= MAX_RANGES && items_are_ranges_within(items),
         _ => false,
     }
 }

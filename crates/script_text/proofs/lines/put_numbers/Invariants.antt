@@ -1,7 +1,0 @@
-use Rattle.std.proofs.Common.{◌≡◌, ◌++◌, map, take}
-use Rattle.std.specs.Prelude.{decimal}
-use Rattle.script_text.specs.Lines.{joined}
-use Rattle.script_text.proofs.lines.put_numbers.Given as goal
-
-abbrev pub invariant-loop-at : goal.invariant-loop-at
-invariant-loop-at l = l.out.items ≡ l.fn.out.items ++ joined (map decimal (take l.at l.values))

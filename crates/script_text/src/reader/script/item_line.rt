@@ -1,0 +1,87 @@
+ghost use Rattle.std.specs.Prelude.{◌≡◌, true, IfOk};
+ghost use Rattle.script_text.specs.Items.{item_of, item_checked, item_by_form, item_of_line};
+ghost use Rattle.script_text.specs.inner.Lines.{LineReadsAs, IsVBucketCount};
+ghost use Rattle.script_text.specs.Rows.{row_of, is_within};
+
+use crate::reader::format::form::Form;
+use crate::reader::format::name::Name;
+use crate::reader::format::shape::{has_shape, is_within};
+use crate::reader::format::sizes::Sizes;
+use crate::reader::format::supported::is_supported;
+use crate::reader::script::command::command_of;
+use crate::reader::script::item::Item;
+use crate::reader::script::line::members_of;
+use crate::reader::script::line_fault::LineFault;
+use crate::reader::script::turn::turn_of;
+use crate::reader::values::members::count_at;
+use n1ql_value::{Memory, Pairs};
+use scan_history::Kind;
+use std::alloc::Global;
+
+/// What a line after the header says; `defined` tells whether a ddl line came before it.
+#[tactic(auto, unfolding(crate::specs::Items::item_of_line))]
+pub(crate) fn read_item_line(
+    alloc: Global,
+    sizes: Sizes,
+    defined: bool,
+    line: &[u8],
+) -> Result<Item, LineFault>
+    requires { IsVBucketCount sizes.vbuckets }
+    ensures { LineReadsAs (item_of_line sizes defined line.now) result }
+{
+    let members = members_of(alloc, line)?;
+    by_form(alloc, sizes, defined, members)
+}
+
+fn by_form(alloc: Global, sizes: Sizes, defined: bool, members: Pairs) -> Result<Item, LineFault>
+    requires { IsVBucketCount sizes.vbuckets }
+    ensures { LineReadsAs (item_by_form sizes defined members) result }
+{
+    match Form::of(&members) {
+        Some(form) => checked(alloc, sizes, defined, form, members),
+        None => Err(LineFault::Bad(Kind::Shape)),
+    }
+}
+
+#[tactic(auto, unfolding(crate::specs::Items::item_checked))]
+fn checked(
+    alloc: Global,
+    sizes: Sizes,
+    defined: bool,
+    form: Form,
+    members: Pairs,
+) -> Result<Item, LineFault>
+    requires { IsVBucketCount sizes.vbuckets }
+    ensures { LineReadsAs (item_checked sizes defined form members) result }
+{
+    if !has_shape(form.row(), &members) {
+        return Err(LineFault::Bad(Kind::Shape));
+    }
+    if !is_within(sizes, form.row(), &members) {
+        return Err(LineFault::Bad(Kind::Range));
+    }
+    if !is_supported(defined, form, &members) {
+        return Err(LineFault::Bad(Kind::Unbuilt));
+    }
+    match item_of(alloc, sizes, form, members)? {
+        Some(item) => Ok(item),
+        None => Err(LineFault::Bad(Kind::Unbuilt)),
+    }
+}
+
+/// The turn, or else the command, that a line of a form gives. None where it gives neither.
+#[tactic(auto, unfolding(crate::specs::Items::item_of))]
+fn item_of(alloc: Global, sizes: Sizes, form: Form, members: Pairs) -> Result<Option<Item>, Memory>
+    requires vbuckets { IsVBucketCount sizes.vbuckets }
+    requires within { is_within sizes (row_of form) members ≡ true }
+    ensures { IfOk result (λ item. item ≡ item_of sizes.vbuckets form members) }
+{
+    if let Some(turn) = turn_of(alloc, sizes, form, &members)? {
+        return Ok(Some(Item::Turn { turn }));
+    }
+    let client = count_at(&members, Name::C, 0);
+    match command_of(alloc, sizes.vbuckets, form, members)? {
+        Some(command) => Ok(Some(Item::Command { client, command })),
+        None => Ok(None),
+    }
+}
