@@ -1,6 +1,7 @@
 -- The answer to an input.
 use Rattle.std.specs.Prelude.{◌≡◌, ℕ, List, ⊤, if◌then◌else◌, nat_le, length, Result, Ok, Err, Vec}
 use Rattle.std.specs.declared.alloc.Global.{Global}
+use Rattle.n1ql_value.specs.Limits.{max_input_bytes}
 use Rattle.scan_history.specs.declared.kind.Kind.{Kind}
 use Rattle.scan_history.specs.declared.what.What.{What}
 use Rattle.scan_history.specs.declared.what.What.TheVariants.{Input}
@@ -29,7 +30,7 @@ answer_of input = answer_to (script_of input)
 
 -- the answer to an input
 abbrev pub for_input : List ℕ → Answer
-for_input input = if nat_le (length input) 4194304 then answer_of input else past_limit Input 4194304
+for_input input = if nat_le (length input) max_input_bytes then answer_of input else past_limit Input max_input_bytes
 
 -- the input is a script, and the text is the report of the history that its replay gives
 pub record IsReportOf (input text : List ℕ) : Type 0 where

@@ -1,6 +1,7 @@
 ghost use Rattle.std.specs.Prelude.{◌≡◌, IfOk};
 ghost use Rattle.gsi_sched.specs.Replay.{replay_of};
-ghost use Rattle.scan_history.specs.Sound.{IsSound, IsSupported};
+ghost use Rattle.scan_history.specs.Sound.{IsSound};
+ghost use Rattle.scan_history.specs.Supported.{IsSupported};
 ghost use Rattle.script_text.specs.Reports.{report_of};
 
 use gsi_sched::replay;

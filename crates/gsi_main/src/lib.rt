@@ -21,7 +21,6 @@ mod writing;
 
 pub use mem_sink::MemSink;
 pub use mem_source::MemSource;
-pub use reading::INPUT_LIMIT;
 pub use replay::gsi_replay;
 pub use scan_history::{Kind, What};
 pub use sink::Sink;

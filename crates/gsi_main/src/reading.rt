@@ -1,14 +1,13 @@
 ghost use Rattle.std.specs.Prelude.{◌≡◌, ◌<◌, length, IfOk};
+ghost use Rattle.n1ql_value.specs.Limits.{max_input_bytes};
 ghost use Rattle.gsi_main.specs.Faults.{Rose};
 ghost use Rattle.gsi_main.specs.Reading.{TookPiece, ReadWhole, ReadPast};
 ghost use Rattle.gsi_main.specs.declared.reading.Unread.TheVariants.{Fault, Memory};
 
 use crate::source::Source;
 use n1ql_value::Failed;
+use n1ql_value::limits::MAX_INPUT_BYTES;
 use std::alloc::{AllocError, Global};
-
-/// The most bytes that an input may have.
-pub const INPUT_LIMIT: usize = 4_194_304;
 
 const PIECE: usize = 65_536;
 
@@ -38,17 +37,17 @@ impl From<Failed> for Unread {
 
 /// Reads the source to its end, or one byte past the limit.
 pub(crate) fn read_input<S: Source>(alloc: Global, source: &mut S) -> Result<Vec<u8>, Unread>
-    ensures whole { IfOk result (λ bytes. ReadWhole INPUT_LIMIT (S.left source.old) (S.left source.new)
+    ensures whole { IfOk result (λ bytes. ReadWhole max_input_bytes (S.left source.old) (S.left source.new)
         (S.faults source.old) (S.faults source.new) bytes.items) }
     ensures fault { result ≡ Err Unread.Fault → Rose (S.faults source.old) (S.faults source.new) }
-    ensures past { result ≡ Err Unread.TooLarge → ReadPast INPUT_LIMIT (S.left source.old) (S.left source.new)
+    ensures past { result ≡ Err Unread.TooLarge → ReadPast max_input_bytes (S.left source.old) (S.left source.new)
         (S.faults source.old) (S.faults source.new) }
     ensures memory { result ≡ Err Unread.Memory → S.faults source.new ≡ S.faults source.old }
 {
     let mut bytes = Vec::new(alloc);
     let mut piece = zeros(alloc, PIECE)?;
-    'pieces: while bytes.len() <= INPUT_LIMIT {
-        let room = PIECE.min(INPUT_LIMIT + 1 - bytes.len());
+    'pieces: while bytes.len() <= MAX_INPUT_BYTES {
+        let room = PIECE.min(MAX_INPUT_BYTES + 1 - bytes.len());
         let count = read_piece(source, &mut piece[..room], &mut bytes)?;
         if count == 0 {
             return Ok(bytes);

@@ -1,15 +1,19 @@
-ghost use Rattle.std.specs.Prelude.{◌≡◌, ◌<◌, ◌↔◌, IfSome, IsTrue};
-ghost use Rattle.gsi_main.specs.Answer.{for_input};
+ghost use Rattle.std.specs.Prelude.{◌≡◌, ◌<◌, ◌↔◌, ℕ, IfSome, IsTrue};
+ghost use Rattle.n1ql_value.specs.Limits.{max_input_bytes};
+ghost use Rattle.scan_history.specs.declared.kind.Kind.{Kind};
+ghost use Rattle.scan_history.specs.declared.what.What.{What};
+ghost use Rattle.gsi_main.specs.Answer.{for_input, bad_line, past_limit};
 ghost use Rattle.gsi_main.specs.Faults.{Rose};
 ghost use Rattle.gsi_main.specs.Reading.{TookPast};
-ghost use Rattle.gsi_main.specs.Replay.{IsReplay, IsFor, Replayed, PartlyReplayed};
+ghost use Rattle.gsi_main.specs.Replay.{IsReplay, IsFor, Replayed, PartlyReplayed, Answered};
 
 use crate::answer::answer_for;
-use crate::reading::{INPUT_LIMIT, Unread, read_input};
+use crate::reading::{Unread, read_input};
 use crate::sink::Sink;
 use crate::source::Source;
 use crate::status::Status;
 use crate::writing::write_report;
+use n1ql_value::limits::MAX_INPUT_BYTES;
 use n1ql_value::{Failed, Text};
 use scan_history::What;
 use script_text::ScriptFault;
@@ -27,8 +31,12 @@ pub fn gsi_replay<S: Source, K: Sink>(
         Replayed (S.left source.old) (S.left source.new) (K.held sink.old) (K.held sink.new) }
     ensures exact { IsReplay words.now → IfSome (S.left source.old) (λ input. IsFor result (for_input input)) }
     ensures words { (result ≡ Status.Words) ↔ ¬ IsReplay words.now }
-    ensures past_limit { result ≡ Status.TooLarge What.Input 4194304 →
-        TookPast 4194304 (S.left source.old) (S.left source.new) }
+    ensures bad_line { (line : ℕ) (kind : Kind) → result ≡ Status.Script line kind →
+        Answered (S.left source.old) (S.left source.new) (bad_line line kind) }
+    ensures limit { (what : What) (limit : ℕ) → result ≡ Status.TooLarge what limit → ¬ (what ≡ What.Input) →
+        Answered (S.left source.old) (S.left source.new) (past_limit what limit) }
+    ensures input_limit { result ≡ Status.TooLarge What.Input max_input_bytes →
+        TookPast max_input_bytes (S.left source.old) (S.left source.new) }
     ensures read_fault { result ≡ Status.ReadFault → Rose (S.faults source.old) (S.faults source.new) }
     ensures read_grew { S.faults source.old < S.faults source.new → result ≡ Status.ReadFault }
     ensures write_fault { result ≡ Status.WriteFault → Rose (K.faults sink.old) (K.faults sink.new) }
@@ -50,7 +58,7 @@ pub fn gsi_replay<S: Source, K: Sink>(
         Err(Unread::TooLarge) => {
             return Status::TooLarge {
                 what: What::Input,
-                limit: INPUT_LIMIT as u64,
+                limit: MAX_INPUT_BYTES as u64,
             };
         }
     };
