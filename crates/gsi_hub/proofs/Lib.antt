@@ -1,0 +1,15 @@
+pub mod PartLists
+pub mod LiveLists
+pub mod Snapshots
+pub mod Served
+pub mod Steps
+pub mod Opens
+pub mod Firsts
+pub mod Calls
+pub mod Keeping
+pub mod Sending
+pub mod Statements
+pub mod Pieces
+pub mod Beginnings
+pub mod Endings
+pub mod Requests

@@ -1,0 +1,8 @@
+use Rattle.std.proofs.Common.{Some}
+use Rattle.std.proofs.Math.Seq.{map-set}
+use Rattle.std.specs.Prelude.{option_map}
+use Rattle.std.specs.Arc.{arc_value}
+use Rattle.gsi_hub.proofs.newest.put_newest.Goals as goal
+
+pub returns : goal.returns
+returns c = map-set (option_map arc_value) c.args.newest.now.items c.args.i (Some c.args.snapshot)
