@@ -4,26 +4,27 @@ use Rattle.std.specs.Prelude.{if◌then◌else◌}
 use Rattle.std.specs.Option.{option_map_or}
 use Rattle.std.specs.List.{flat_map, list_any}
 use Rattle.std.specs.Arc.{arc_value}
-use Rattle.std.specs.Str.{bytes_eq}
 use Rattle.std.specs.declared.sync.Arc.{Arc}
 use Rattle.std.specs.declared.alloc.Global.{Global}
 use Rattle.n1ql_value.specs.declared.range.Range.{Range}
 use Rattle.n1ql_value.specs.declared.value.Value.{Value}
 use Rattle.seq_vector.specs.Vectors.{zeros}
 use Rattle.vb_store.specs.Mutations.{high_of, next_mutation}
+use Rattle.scan_history.specs.declared.ask.Ask.{Ask}
 use Rattle.scan_history.specs.declared.command.Command.{Command}
 use Rattle.scan_history.specs.declared.command.Command.TheVariants.{Upsert, Delete, Ddl, Scan}
 use Rattle.scan_history.specs.declared.script.Script.{Script}
 use Rattle.index_def.specs.declared.definition.IndexDef.{IndexDef}
+use Rattle.index_def.specs.LiveIndexes.{Live}
 use Rattle.scan_history.specs.Ddl.{definition_of_text}
-use Rattle.scan_history.specs.Events.{Event, mutate, define, publish, online, start, answer}
-use Rattle.scan_history.specs.Fold.{work, Client, Index, State, state_after}
-use Rattle.scan_history.specs.Answers.{command_at}
+use Rattle.scan_history.specs.Events.{Event, mutate, define, online, start, answer}
+use Rattle.scan_history.specs.First.{command_at}
+use Rattle.scan_history.specs.Fold.{work, Client, State, state_after}
 use Rattle.gsi_sched.specs.declared.index_build.IndexBuild.{IndexBuild}
 use Rattle.gsi_sched.specs.declared.replay_state.ReplayState.{ReplayState}
-use Rattle.gsi_sched.specs.Replay.{catch_up, scanned, published_of, opening, action_by, action, after_actions}
-use Rattle.gsi_sched.specs.inner.Run.{shown, IsRun, IsAfter, publications}
-use Rattle.gsi_sched.proofs.Runs.{created_events, fresh_index, was_empty, after_definition, defined_index, demand_events, answered_events, has_index, start_client, start_indexes}
+use Rattle.gsi_sched.specs.Replay.{catch_up, catch_up_in, scanned, opening, action_by, action, after_actions}
+use Rattle.gsi_sched.specs.inner.Run.{IsRun, IsAfter, publications}
+use Rattle.gsi_sched.proofs.Runs.{created_events, fresh_index, was_empty, after_definition, defined_index, defined_board, demand_events, answered_events, has_index, start_client, start_board}
 
 -- with nothing open the client opens its next command
 pub first_action : (script : Script) (k : ℕ) (m : ReplayState) (command : Command) → IsRun script k m → command_at script 0 k ≡ Some command
@@ -65,7 +66,7 @@ two_actions script events first second a b =
 
 -- the creation of the index is two actions
 pub created : (script : Script) (k : ℕ) (m : ReplayState) (text : List ℕ) (def : IndexDef) (at : Option (Arc (List ℕ) Global)) (b : IndexBuild) (events : List Event) → (run : IsRun script k m) → (empty : m.index ≡ None)
-    → command_at script 0 k ≡ Some (Ddl text) → definition_of_text text ≡ Some def → arc_value b.published ≡ zeros script.vbuckets → publications at ≡ catch_up (high_of script.vbuckets m.store.log) (shown b)
+    → command_at script 0 k ≡ Some (Ddl text) → definition_of_text text ≡ Some def → arc_value b.published ≡ zeros script.vbuckets → publications at ≡ catch_up (high_of script.vbuckets m.store.log) 0 (arc_value b.published)
     → events ≡ created_events script k m run empty def at → IsAfter script m.events events
 created script k m text def at b events run empty is reads board published e =
     let n = script.vbuckets in
@@ -73,40 +74,40 @@ created script k m text def at b events run empty is reads board published e =
     let fresh = fresh_index script k m run empty def at in
     let first : action script m.events 0 ≡ define 0 k 0 false def ∷ [] =
     first_action script k m (Ddl text) run is
-    ∙ (ap (λ (o : Option IndexDef). option_map_or (λ d. define 0 (s.client 0).next (length s.indexes) false d ∷ []) o []) reads
-    ∙ (ap (λ j. define 0 j (length s.indexes) false def ∷ []) run.next ∙ ap (λ (xs : List Index). define 0 k (length xs) false def ∷ []) (was_empty script k m run empty def at))) in
+    ∙ (ap (λ (o : Option IndexDef). option_map_or (λ d. define 0 (s.client 0).next (length s.defs) false d ∷ []) o []) reads
+    ∙ (ap (λ j. define 0 j (length s.defs) false def ∷ []) run.next ∙ ap (λ (defs : List IndexDef). define 0 k (length defs) false def ∷ []) (was_empty script k m run empty def at).none_defined)) in
     let defined = m.events ++ define 0 k 0 false def ∷ [] in
     let t = state_after n defined in
     let client : t.client 0 ≡ record (s.client 0) { opened = work (0 ∷ []) (high_of n s.log) } = ap (λ (u : State). u.client 0) (after_definition script k m run empty def at) in
     let log : t.log ≡ m.store.log = ap (λ (u : State). u.log) (after_definition script k m run empty def at) ∙ sym run.log in
     let second : action script defined 0 ≡ publications at ++ online 0 k (0 ∷ []) ∷ [] =
     ap (λ (c : Client). action_by script t 0 c.opened) client
-    ∙ (ap (λ (xs : List Index). caught_up (high_of n t.log) xs ++ online 0 (t.client 0).next (0 ∷ []) ∷ []) (defined_index script k m run empty def at)
-    ∙ (ap (λ (j : ℕ). caught_up (high_of n t.log) (fresh ∷ []) ++ online 0 j (0 ∷ []) ∷ []) (ap (λ (c : Client). c.next) client ∙ run.next)
+    ∙ (ap (λ (xs : List Live). caught_up n t xs ++ online 0 (t.client 0).next (0 ∷ []) ∷ []) (defined_index script k m run empty def at)
+    ∙ (ap (λ (j : ℕ). caught_up n t (fresh ∷ []) ++ online 0 j (0 ∷ []) ∷ []) (ap (λ (c : Client). c.next) client ∙ run.next)
     ∙ ap (λ more. more ++ online 0 k (0 ∷ []) ∷ [])
-    (append-nil (catch_up (high_of n t.log) fresh)
-    ∙ (ap (λ l. catch_up (high_of n l) fresh) log
-    ∙ (ap (λ v. if bytes_eq v (high_of n m.store.log) then [] else publish 0 (high_of n m.store.log) ∷ []) (sym board) ∙ sym published))))) in
+    (append-nil (catch_up_in n t fresh)
+    ∙ (ap (λ l. catch_up (high_of n l) 0 (t.published 0)) log
+    ∙ (ap (catch_up (high_of n m.store.log) 0) (defined_board script k m run empty def at ∙ sym board) ∙ sym published))))) in
     (2, omega arith, e ∙ (append_assoc defined (publications at) (online 0 k (0 ∷ []) ∷ []) ∙ two_actions script m.events (define 0 k 0 false def ∷ []) (publications at ++ online 0 k (0 ∷ []) ∷ []) first second))
   where
-    caught_up : List ℕ → List Index → List Event
-    caught_up high xs = flat_map (λ x. if list_any (λ i. x.number == i) (0 ∷ []) then catch_up high x else []) xs
+    caught_up : ℕ → State → List Live → List Event
+    caught_up n s xs = flat_map (λ x. if list_any (λ i. x.number == i) (0 ∷ []) then catch_up_in n s x else []) xs
 
 -- a scan is two actions
-pub scanned_twice : (script : Script) (k : ℕ) (m : ReplayState) (b : IndexBuild) (index : List ℕ) (spans : List (List Range)) (events : List Event) → (run : IsRun script k m) → (there : m.index ≡ Some b)
-    → command_at script 0 k ≡ Some (Scan index spans) → events ≡ answered_events script k m run b there → IsAfter script m.events events
-scanned_twice script k m b index spans events run there is e =
+pub scanned_twice : (script : Script) (k : ℕ) (m : ReplayState) (b : IndexBuild) (index : List ℕ) (spans : List (List Range)) (ask : Ask) (events : List Event) → (run : IsRun script k m) → (there : m.index ≡ Some b)
+    → command_at script 0 k ≡ Some (Scan index spans ask) → events ≡ answered_events script k m run b there → IsAfter script m.events events
+scanned_twice script k m b index spans ask events run there is e =
     let n = script.vbuckets in
     let s = state_after n m.events in
     let first : action script m.events 0 ≡ start 0 k 0 m.seen ∷ [] =
-    first_action script k m (Scan index spans) run is
-    ∙ (ap (λ j. start 0 j (scanned s.indexes) (s.client 0).seen ∷ []) run.next
-    ∙ (ap (λ (xs : List Index). start 0 k (scanned xs) (s.client 0).seen ∷ []) (has_index script k m run b there).0
+    first_action script k m (Scan index spans ask) run is
+    ∙ (ap (λ j. start 0 j (scanned s.live) (s.client 0).seen ∷ []) run.next
+    ∙ (ap (λ (xs : List Live). start 0 k (scanned xs) (s.client 0).seen ∷ []) (has_index script k m run b there).live_is
     ∙ ap (λ v. start 0 k 0 v ∷ []) (sym run.seen))) in
     let t = state_after n (demand_events script k m run b there) in
     let client = start_client script k m run b there in
     let second : action script (demand_events script k m run b there) 0 ≡ answer 0 k (arc_value b.published) ∷ [] =
     ap (λ (c : Client). action_by script t 0 c.opened) client
-    ∙ (ap (λ (xs : List Index). answer 0 (t.client 0).next (published_of 0 xs) ∷ []) (start_indexes script k m run b there)
+    ∙ (ap (λ (v : List ℕ). answer 0 (t.client 0).next v ∷ []) (start_board script k m run b there)
     ∙ ap (λ (j : ℕ). answer 0 j (arc_value b.published) ∷ []) (ap (λ (c : Client). c.next) client ∙ run.next)) in
     (2, omega arith, e ∙ two_actions script m.events (start 0 k 0 m.seen ∷ []) (answer 0 k (arc_value b.published) ∷ []) first second)

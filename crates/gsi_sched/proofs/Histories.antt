@@ -1,13 +1,14 @@
 -- What one more event leaves, and what it answers.
-use Rattle.std.proofs.Common.{◌≡◌, ℕ, List, [], ◌∷◌, ◌++◌, fold, refl, sym, ap, ◌∙◌, append_assoc, append-nil}
+use Rattle.std.proofs.Common.{◌≡◌, ℕ, List, [], ◌∷◌, ◌++◌, Some, fold, refl, sym, ap, ◌∙◌, append_assoc, append-nil}
 use Rattle.std.specs.List.{AllByRecursion}
 use Rattle.vb_store.specs.declared.mutation.Mutation.{Mutation}
 use Rattle.vb_store.specs.Documents.{documents_at}
 use Rattle.scan_history.specs.declared.script.Script.{Script}
 use Rattle.scan_history.specs.declared.done.Answered.{Answered}
-use Rattle.scan_history.specs.Events.{Event, mutate, define, publish, online, start, answer}
+use Rattle.scan_history.specs.Events.{Event, answer}
 use Rattle.scan_history.specs.Fold.{State, first_state, step, state_after}
-use Rattle.scan_history.specs.Answers.{started_definition, scan_under, spans_of, command_at, answer_at, answers_from, answers_of}
+use Rattle.scan_history.specs.First.{command_at}
+use Rattle.scan_history.specs.Answers.{started_definition, scan_under, spans_of, answer_at, answers_from, answers_of}
 use Rattle.scan_history.specs.RowTexts.{rows_text}
 use Rattle.gsi_sched.proofs.Applied.{fold-push}
 use Rattle.gsi_sched.specs.inner.Run.{IsReached, IsReachedAt}
@@ -26,13 +27,9 @@ answers_from-push script log s (x ∷ xs) e =
 -- answers at vectors that the mutations reached stay as they are while mutations come
 module _ (script : Script) (log log' : List Mutation) (same : (at : List ℕ) → IsReachedAt script.vbuckets log at → documents_at log' at ≡ documents_at log at) where
   answer_at-grows : (s : State) (e : Event) → IsReached script.vbuckets log e → answer_at script log' s e ≡ answer_at script log s e
-  answer_at-grows s (mutate c k what) r = refl
-  answer_at-grows s (define c k i deferred def) r = refl
-  answer_at-grows s (publish i at) r = refl
-  answer_at-grows s (online c k indexes) r = refl
-  answer_at-grows s (start c k i demand) r = refl
   answer_at-grows s (answer c k at) r =
-      ap (λ docs. let given : Answered = record { c = c; k = k; text = rows_text (scan_under (started_definition s c) (spans_of (command_at script c k)) docs) } in given ∷ []) (same at r)
+      ap (λ docs. let given : Answered = record { c = c; k = k; text = Some (rows_text (scan_under (started_definition s c) (spans_of (command_at script c k)) docs)) } in given ∷ []) (same at r)
+  answer_at-grows s _ r = refl
 
   answers_from-grows : (s : State) (events : List Event) → AllByRecursion (IsReached script.vbuckets log) events → answers_from script log' s events ≡ answers_from script log s events
   answers_from-grows s [] r = refl

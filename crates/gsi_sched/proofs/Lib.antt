@@ -5,3 +5,17 @@ mod Runs
 mod Actions
 mod Plays
 mod Statements
+mod Served
+mod LiveIndexes
+mod FirstEvents
+mod Steps
+mod CatchUps
+mod NextEvents
+mod Turns
+mod ClientSteps
+mod WholeReplays
+mod Finishing
+mod KeptSlots
+mod KeptIndexes
+mod Deliveries
+mod SlotsOfReplays

@@ -1,10 +1,9 @@
 -- What the replay has made stays held to its history, command after command.
-use Rattle.std.proofs.Common.{◌≡◌, ◌==◌, Bool, true, false, ℕ, max, ◌+◌, ◌≤◌, List, [], ◌∷◌, ◌++◌, length, take, Option, Some, None, refl, sym, ap, ◌∙◌, subst, append-nil, arith}
+use Rattle.std.proofs.Common.{◌≡◌, false, ℕ, max, ◌+◌, ◌≤◌, List, [], ◌∷◌, ◌++◌, length, take, Option, Some, None, slice_get, refl, sym, ap, ◌∙◌, subst, append-nil, arith}
 use Rattle.std.proofs.lemmas.List.{length-append, take-append-le}
 use Rattle.std.specs.Arc.{arc_value}
 use Rattle.std.specs.List.{AllByRecursion}
 use Rattle.std.specs.Prelude.{Result, Ok, Err, IfOk}
-use Rattle.std.specs.Prelude.{map as map_list, if◌then◌else◌}
 use Rattle.std.specs.FinMap as map
 use Rattle.seq_vector.specs.Vectors.{entry, IsCovered, join, zeros, pointwise}
 use Rattle.vb_store.specs.declared.mutation.Mutation.{Mutation}
@@ -12,25 +11,29 @@ use Rattle.vb_store.specs.Mutations.{high_of}
 use Rattle.vb_store.specs.Accepted.{Accepted}
 use Rattle.vb_store.specs.Documents.{with_mutations, documents_at}
 use Rattle.index_def.specs.declared.definition.IndexDef.{IndexDef}
+use Rattle.index_def.specs.LiveIndexes.{Live, all_in_state}
 use Rattle.index_def.specs.Forms.{IsFormed}
 use Rattle.index_def.specs.Keys.{keys_of}
 use Rattle.index_state.specs.RowsById.{RowsById, all_rows}
+use Rattle.n1ql_value.specs.declared.state.State.TheVariants.{Building, Online}
 use Rattle.index_def.specs.Index.{index_of}
 use Rattle.index_state.specs.Index.{HoldsKeys}
 use Rattle.std.specs.declared.sync.Arc.{Arc}
 use Rattle.std.specs.declared.alloc.Global.{Global}
 use Rattle.scan_history.specs.declared.script.Script.{Script}
 use Rattle.scan_history.specs.Events.{Event, mutate, define, publish, online, start, answer}
-use Rattle.scan_history.specs.Fold.{with_publication, gone_online, closed, own_step, Client, Opened, started, Index, State, log_step, step, state_after}
+use Rattle.scan_history.specs.First.{command_at}
+use Rattle.scan_history.specs.Fold.{closed, own_step, Client, Opened, started, State, log_step, step, state_after}
+use Rattle.scan_history.specs.declared.ask.Ask.{Ask}
 use Rattle.scan_history.specs.declared.done.Answered.{Answered}
-use Rattle.scan_history.specs.Answers.{command_at, spans_of, definition_of, definition_in, started_definition, scan_under, answer_at, answers_of}
+use Rattle.scan_history.specs.Answers.{spans_of, definition_in, started_definition, scan_under, answer_at, answers_of}
 use Rattle.scan_history.specs.RowTexts.{rows_text}
 use Rattle.scan_history.specs.declared.command.Command.TheVariants.{Scan}
 use Rattle.n1ql_value.specs.declared.range.Range.{Range}
 use Rattle.index_tree.specs.Range.{rows_within}
 use Rattle.gsi_sched.specs.declared.index_build.IndexBuild.{IndexBuild}
 use Rattle.gsi_sched.specs.declared.replay_state.ReplayState.{ReplayState}
-use Rattle.gsi_sched.specs.inner.Run.{IsReachedAt, StandsFor, shown, HoldsIndexes, IsReached, IsRunAt, IsRun, publications, published_after}
+use Rattle.gsi_sched.specs.inner.Run.{IsReachedAt, StandsFor, shown, IsEmpty, IsTheOne, HoldsIndexes, IsReached, IsRunAt, IsRun, publications, published_after}
 use Rattle.gsi_sched.proofs.Histories.{state_after-push, answers_of-grows}
 
 All-push : {A : Type 0} (P : A → Type 0) (xs : List A) (x : A) → AllByRecursion P xs → P x → AllByRecursion P (xs ++ x ∷ [])
@@ -77,12 +80,8 @@ module _ (n : ℕ) (log : List Mutation) (x : Mutation) (sized : length (high_of
   }
 
   event_reached_on : (e : Event) → IsReached n log e → IsReached n (log ++ x ∷ []) e
-  event_reached_on (mutate c k what) r = tt
-  event_reached_on (define c k i deferred def) r = tt
-  event_reached_on (publish i at) r = tt
-  event_reached_on (online c k indexes) r = tt
-  event_reached_on (start c k i demand) r = tt
   event_reached_on (answer c k at) r = reached_on at r
+  event_reached_on _ r = tt
 
   pub all_reached_on : (es : List Event) → AllByRecursion (IsReached n log) es → AllByRecursion (IsReached n (log ++ x ∷ [])) es
   all_reached_on [] r = tt
@@ -98,9 +97,9 @@ module _ (n : ℕ) (log : List Mutation) (x : Mutation) (sized : length (high_of
       reached = reached_on (arc_value b.published) s.reached;
     }
 
-    indexes_on : (o : Option IndexBuild) (xs : List Index) → HoldsIndexes n log o xs → HoldsIndexes n (log ++ x ∷ []) o xs
-    indexes_on None xs h = h
-    indexes_on (Some b) xs h = (h.0, stands_on b h.1)
+    indexes_on : (o : Option IndexBuild) (live : List Live) (defs : List IndexDef) (board : List ℕ) → HoldsIndexes n log o live defs board → HoldsIndexes n (log ++ x ∷ []) o live defs board
+    indexes_on None live defs board h = h
+    indexes_on (Some b) live defs board h = record { live_is = h.live_is; defined = h.defined; newest = h.newest; stands = stands_on b h.stands }
 
 -- The state after a mutation of client 0.
 pub run_mutated : (script : Script) (k : ℕ) (m m' : ReplayState) (x : Mutation) → IsRun script k m
@@ -120,8 +119,9 @@ run_mutated script k m m' x run sized grows growth vbuckets log index seen answe
       next = ap (λ (j : ℕ). j + 1) run.next;
       seen = seen ∙ run.seen;
       size = ap length seen ∙ run.size;
-      indexes = subst (λ (l : List Mutation). HoldsIndexes n l m'.index s.indexes) (sym log)
-          (subst (λ (o : Option IndexBuild). HoldsIndexes n (m.store.log ++ x ∷ []) o s.indexes) (sym index) (indexes_on n m.store.log x sized grows growth m.index s.indexes run.indexes));
+      indexes = subst (λ (l : List Mutation). HoldsIndexes n l m'.index s.live s.defs (s.published 0)) (sym log)
+          (subst (λ (o : Option IndexBuild). HoldsIndexes n (m.store.log ++ x ∷ []) o s.live s.defs (s.published 0)) (sym index)
+          (indexes_on n m.store.log x sized grows growth m.index s.live s.defs (s.published 0) run.indexes));
       answers = answers ∙ (run.answers ∙ (sym (append-nil (answers_of script m.events))
           ∙ (sym (answers_of-grows script m.store.log (m.store.log ++ x ∷ []) growth m.events e run.reached (sym run.log) (ap (λ l. l ++ x ∷ []) (sym run.log)))
           ∙ ap (answers_of script) (sym events))));
@@ -152,27 +152,24 @@ stands_fresh n log (Err e) formed applied state snapshot board no_rows fresh non
 stands_fresh n log (Ok b) formed applied state snapshot board no_rows fresh none sized grows growth =
     stands_new n log b formed applied state snapshot board (no_rows (arc_value b.def)) (fresh (arc_value b.def)) none sized grows growth
 
--- a publication leaves the clients as they are, and moves the board of the one index
-pub state_published : (n : ℕ) (events : List Event) (at : Option (Arc (List ℕ) Global)) (x : Index) → (state_after n events).indexes ≡ x ∷ [] → x.number ≡ 0
-    → ((state_after n (events ++ publications at)).indexes ≡ record x { published = published_after at x.published } ∷ []) × ((state_after n (events ++ publications at)).client 0 ≡ (state_after n events).client 0)
-state_published n events None x is number =
-    (ap (λ (s : State). s.indexes) (ap (state_after n) (append-nil events)) ∙ is, ap (λ (s : State). s.client 0) (ap (state_after n) (append-nil events)))
-state_published n events (Some at) x is number = (
-  ap (λ (s : State). s.indexes) (state_after-push n events (publish 0 (arc_value at))) ∙ (ap (map_list (with_publication 0 (arc_value at))) is ∙ ap (λ (b : Bool). (if b then record x { published = arc_value at } else x) ∷ []) (ap (λ (i : ℕ). i == 0) number)),
-  ap (λ (s : State). s.client 0) (state_after-push n events (publish 0 (arc_value at))),
-)
+-- a publication moves the board of index 0 alone
+pub record IsPublished (at : Option (Arc (List ℕ) Global)) (s t : State) : Type 0 where
+  pub live : t.live ≡ s.live
+  pub defs : t.defs ≡ s.defs
+  pub board : t.published 0 ≡ published_after at (s.published 0)
+  pub client : t.client 0 ≡ s.client 0
+
+pub state_published : (n : ℕ) (events : List Event) (at : Option (Arc (List ℕ) Global)) → IsPublished at (state_after n events) (state_after n (events ++ publications at))
+state_published n events None =
+    subst (IsPublished None (state_after n events)) (ap (state_after n) (sym (append-nil events))) (record { live = refl; defs = refl; board = refl; client = refl })
+state_published n events (Some at) =
+    subst (IsPublished (Some at) (state_after n events)) (sym (state_after-push n events (publish 0 (arc_value at)))) (record { live = refl; defs = refl; board = refl; client = refl })
 
 -- ---- the creation of the index
 
-abbrev online_index : IndexDef → List ℕ → Index
-online_index def board = record { number = 0; def = def; online = true; published = board }
-
-same_index : (f g : IndexDef) (u v : List ℕ) → f ≡ g → u ≡ v → online_index f u ∷ [] ≡ online_index g v ∷ []
-same_index f g u v def board = ap (λ (h : IndexDef). online_index h u ∷ []) def ∙ ap (λ (w : List ℕ). online_index g w ∷ []) board
-
-pub no_indexes : (n : ℕ) (log : List Mutation) (o : Option IndexBuild) (xs : List Index) → o ≡ None → HoldsIndexes n log o xs → xs ≡ []
-no_indexes n log None xs e h = h
-no_indexes n log (Some b) xs e h = absurd (cc)
+pub no_indexes : (n : ℕ) (log : List Mutation) (o : Option IndexBuild) (live : List Live) (defs : List IndexDef) (board : List ℕ) → o ≡ None → HoldsIndexes n log o live defs board → IsEmpty n live defs board
+no_indexes n log None live defs board e h = h
+no_indexes n log (Some b) live defs board e h = absurd (cc)
 
 module _ (script : Script) (k : ℕ) (m : ReplayState) (run : IsRun script k m) (empty : m.index ≡ None) (def : IndexDef) (at : Option (Arc (List ℕ) Global)) where
   abbrev n : ℕ
@@ -188,31 +185,42 @@ module _ (script : Script) (k : ℕ) (m : ReplayState) (run : IsRun script k m) 
   abbrev pub created_events : List Event
   created_events = published_events ++ online 0 k (0 ∷ []) ∷ []
 
-  abbrev pub fresh_index : Index
-  fresh_index = record { number = 0; def = def; online = false; published = zeros n }
+  abbrev pub fresh_index : Live
+  fresh_index = record { number = 0; def = def; state = Building }
 
-  pub was_empty : (state_after n m.events).indexes ≡ []
-  was_empty = no_indexes n m.store.log m.index (state_after n m.events).indexes empty run.indexes
+  pub was_empty : IsEmpty n (state_after n m.events).live (state_after n m.events).defs ((state_after n m.events).published 0)
+  was_empty = let s = state_after n m.events in no_indexes n m.store.log m.index s.live s.defs (s.published 0) empty run.indexes
 
   pub after_definition : state_after n defined_events ≡ step n (state_after n m.events) (define 0 k 0 false def)
   after_definition = state_after-push n m.events (define 0 k 0 false def)
 
-  pub defined_index : (state_after n defined_events).indexes ≡ fresh_index ∷ []
-  defined_index = ap (λ (s : State). s.indexes) after_definition ∙ ap (λ (xs : List Index). xs ++ fresh_index ∷ []) was_empty
+  pub defined_index : (state_after n defined_events).live ≡ fresh_index ∷ []
+  defined_index = ap (λ (s : State). s.live) after_definition ∙ ap (λ (xs : List Live). xs ++ fresh_index ∷ []) was_empty.none_live
 
-  published_state : ((state_after n published_events).indexes ≡ record fresh_index { published = published_after at (zeros n) } ∷ []) × ((state_after n published_events).client 0 ≡ (state_after n defined_events).client 0)
-  published_state = state_published n defined_events at fresh_index defined_index refl
+  pub defined_board : (state_after n defined_events).published 0 ≡ zeros n
+  defined_board = ap (λ (s : State). s.published 0) after_definition ∙ was_empty.unpublished
+
+  published_state : IsPublished at (state_after n defined_events) (state_after n published_events)
+  published_state = state_published n defined_events at
 
   after_online : state_after n created_events ≡ step n (state_after n published_events) (online 0 k (0 ∷ []))
   after_online = state_after-push n published_events (online 0 k (0 ∷ []))
 
-  created_index : (state_after n created_events).indexes ≡ record { number = 0; def = def; online = true; published = published_after at (zeros n) } ∷ []
-  created_index = ap (λ (s : State). s.indexes) after_online ∙ ap (map_list (gone_online (0 ∷ []))) published_state.0
+  created_live : (state_after n created_events).live ≡ shown def ∷ []
+  created_live = ap (λ (s : State). s.live) after_online ∙ ap (all_in_state (0 ∷ []) Online) (published_state.live ∙ defined_index)
+
+  created_defs : (state_after n created_events).defs ≡ def ∷ []
+  created_defs =
+      ap (λ (s : State). s.defs) after_online
+      ∙ (published_state.defs ∙ (ap (λ (s : State). s.defs) after_definition ∙ ap (λ (ds : List IndexDef). ds ++ def ∷ []) was_empty.none_defined))
+
+  created_board : (state_after n created_events).published 0 ≡ published_after at (zeros n)
+  created_board = ap (λ (s : State). s.published 0) after_online ∙ (published_state.board ∙ ap (published_after at) defined_board)
 
   created_client : (state_after n created_events).client 0 ≡ closed ((state_after n m.events).client 0)
   created_client =
       ap (λ (s : State). s.client 0) after_online
-      ∙ (ap closed (published_state.1 ∙ ap (λ (s : State). s.client 0) after_definition))
+      ∙ (ap closed (published_state.client ∙ ap (λ (s : State). s.client 0) after_definition))
 
   kept_created : Kept script m.store.log m.answers created_events
   kept_created =
@@ -230,9 +238,15 @@ module _ (script : Script) (k : ℕ) (m : ReplayState) (run : IsRun script k m) 
         next = ap (λ (c : Client). c.next) created_client ∙ ap (λ (j : ℕ). j + 1) run.next;
         seen = seen ∙ (run.seen ∙ sym (ap (λ (c : Client). c.seen) created_client));
         size = ap length seen ∙ run.size;
-        indexes = subst (λ (l : List Mutation). HoldsIndexes n l m'.index (state_after n created_events).indexes) (sym (ap (λ (a : Accepted). a.log) store))
-            (subst (λ (o : Option IndexBuild). HoldsIndexes n m.store.log o (state_after n created_events).indexes) (sym index)
-            (created_index ∙ same_index def (arc_value b.def) (published_after at (zeros n)) (arc_value b.published) (sym def_is) (sym board), stands));
+        indexes =
+            let s = state_after n created_events in
+            subst (λ (l : List Mutation). HoldsIndexes n l m'.index s.live s.defs (s.published 0)) (sym (ap (λ (a : Accepted). a.log) store))
+            (subst (λ (o : Option IndexBuild). HoldsIndexes n m.store.log o s.live s.defs (s.published 0)) (sym index) (record {
+              live_is = created_live ∙ ap (λ (d : IndexDef). shown d ∷ []) (sym def_is);
+              defined = created_defs ∙ ap (λ (d : IndexDef). d ∷ []) (sym def_is);
+              newest = created_board ∙ sym board;
+              stands = stands;
+            }));
         answers = answers ∙ (kept_created.answers_are ∙ ap (answers_of script) (sym events));
         reached = subst (λ (es : List Event). AllByRecursion (IsReached n m'.store.log) es) (sym events)
             (subst (λ (l : List Mutation). AllByRecursion (IsReached n l) created_events) (sym (ap (λ (a : Accepted). a.log) store)) kept_created.reached);
@@ -258,14 +272,14 @@ module _ (script : Script) (k : ℕ) (m : ReplayState) (run : IsRun script k m) 
   abbrev pub answered_events : List Event
   answered_events = demand_events ++ answer 0 k board ∷ []
 
-  one_index : (o : Option IndexBuild) (xs : List Index) → o ≡ Some b → HoldsIndexes vbs m.store.log o xs → (xs ≡ shown b ∷ []) × StandsFor vbs m.store.log b
-  one_index None xs e h = absurd (cc)
-  one_index (Some c) xs e h =
+  one_index : (o : Option IndexBuild) (live : List Live) (defs : List IndexDef) (newest : List ℕ) → o ≡ Some b → HoldsIndexes vbs m.store.log o live defs newest → IsTheOne vbs m.store.log b live defs newest
+  one_index None live defs newest e h = absurd (cc)
+  one_index (Some c) live defs newest e h =
       let same : c ≡ b = cc in
-      subst (λ (d : IndexBuild). (xs ≡ shown d ∷ []) × StandsFor vbs m.store.log d) same h
+      subst (λ (d : IndexBuild). IsTheOne vbs m.store.log d live defs newest) same h
 
-  pub has_index : ((state_after vbs m.events).indexes ≡ shown b ∷ []) × StandsFor vbs m.store.log b
-  has_index = one_index m.index (state_after vbs m.events).indexes there run.indexes
+  pub has_index : IsTheOne vbs m.store.log b (state_after vbs m.events).live (state_after vbs m.events).defs ((state_after vbs m.events).published 0)
+  has_index = let s = state_after vbs m.events in one_index m.index s.live s.defs (s.published 0) there run.indexes
 
   after_start : state_after vbs demand_events ≡ step vbs (state_after vbs m.events) (start 0 k 0 m.seen)
   after_start = state_after-push vbs m.events (start 0 k 0 m.seen)
@@ -276,46 +290,53 @@ module _ (script : Script) (k : ℕ) (m : ReplayState) (run : IsRun script k m) 
   pub start_client : (state_after vbs demand_events).client 0 ≡ record ((state_after vbs m.events).client 0) { opened = started 0 m.seen (high_of vbs (state_after vbs m.events).log) }
   start_client = ap (λ (s : State). s.client 0) after_start
 
-  pub start_indexes : (state_after vbs demand_events).indexes ≡ shown b ∷ []
-  start_indexes = ap (λ (s : State). s.indexes) after_start ∙ has_index.0
+  pub start_board : (state_after vbs demand_events).published 0 ≡ board
+  start_board = ap (λ (s : State). s.published 0) after_start ∙ has_index.newest
 
   answered_client : (state_after vbs answered_events).client 0 ≡ record (closed ((state_after vbs m.events).client 0)) { seen = join ((state_after vbs m.events).client 0).seen board }
   answered_client = ap (λ (s : State). s.client 0) after_answer ∙ ap (λ (c : Client). own_step [] c (answer 0 k board)) start_client
 
-  answered_indexes : (state_after vbs answered_events).indexes ≡ shown b ∷ []
-  answered_indexes = ap (λ (s : State). s.indexes) after_answer ∙ start_indexes
+  answered_index : IsTheOne vbs m.store.log b (state_after vbs answered_events).live (state_after vbs answered_events).defs ((state_after vbs answered_events).published 0)
+  answered_index = record {
+    live_is = ap (λ (s : State). s.live) after_answer ∙ (ap (λ (s : State). s.live) after_start ∙ has_index.live_is);
+    defined = ap (λ (s : State). s.defs) after_answer ∙ (ap (λ (s : State). s.defs) after_start ∙ has_index.defined);
+    newest = ap (λ (s : State). s.published 0) after_answer ∙ start_board;
+    stands = has_index.stands;
+  }
 
   -- the definition of the index that the scan began on
   scanned_definition : started_definition (state_after vbs demand_events) 0 ≡ Some (arc_value b.def)
   scanned_definition =
-      ap (λ (o : Opened). definition_in (state_after vbs demand_events) o) (ap (λ (c : Client). c.opened) start_client)
-      ∙ ap (definition_of 0) start_indexes
+      ap (λ (o : Opened). definition_in (state_after vbs demand_events).defs o) (ap (λ (c : Client). c.opened) start_client)
+      ∙ ap (λ (defs : List IndexDef). slice_get defs 0) (ap (λ (s : State). s.defs) after_start ∙ has_index.defined)
 
   kept_started : Kept script m.store.log m.answers demand_events
   kept_started = kept_quiet script m.store.log m.answers m.events (start 0 k 0 m.seen) (kept_of script k m run) refl tt refl
 
-  pub given_text : (index : List ℕ) (spans : List (List Range)) → command_at script 0 k ≡ Some (Scan index spans)
+  pub given_text : (index : List ℕ) (spans : List (List Range)) (ask : Ask) → command_at script 0 k ≡ Some (Scan index spans ask)
       → rows_text (scan_under (started_definition (state_after vbs demand_events) 0) (spans_of (command_at script 0 k)) (documents_at m.store.log board)) ≡ rows_text (rows_within spans b.snapshot)
-  given_text index spans command =
+  given_text index spans ask command =
       ap (λ d. rows_text (scan_under d (spans_of (command_at script 0 k)) (documents_at m.store.log board))) scanned_definition
       ∙ (ap (λ o. rows_text (scan_under (Some (arc_value b.def)) (spans_of o) (documents_at m.store.log board))) command
-      ∙ ap (λ rows. rows_text (rows_within spans rows)) (sym has_index.1.snapshot))
+      ∙ ap (λ rows. rows_text (rows_within spans rows)) (sym has_index.stands.snapshot))
 
-  pub run_scanned : (m' : ReplayState) (index : List ℕ) (spans : List (List Range)) → command_at script 0 k ≡ Some (Scan index spans) → m'.store ≡ m.store → m'.index ≡ m.index → m'.seen ≡ join m.seen board
-      → m'.answers ≡ m.answers ++ record { c = 0; k = k; text = rows_text (rows_within spans b.snapshot) } ∷ [] → m'.events ≡ answered_events → IsRun script (k + 1) m'
-  run_scanned m' index spans command store held seen answers events =
-      let kept = kept_more script m.store.log m.answers demand_events (answer 0 k board) kept_started refl has_index.1.reached in
-      let given : List ℕ → List Answered = λ text. record { c = 0; k = k; text = text } ∷ [] in
+  pub run_scanned : (m' : ReplayState) (index : List ℕ) (spans : List (List Range)) (ask : Ask) → command_at script 0 k ≡ Some (Scan index spans ask) → m'.store ≡ m.store → m'.index ≡ m.index → m'.seen ≡ join m.seen board
+      → m'.answers ≡ m.answers ++ record { c = 0; k = k; text = Some (rows_text (rows_within spans b.snapshot)) } ∷ [] → m'.events ≡ answered_events → IsRun script (k + 1) m'
+  run_scanned m' index spans ask command store held seen answers events =
+      let kept = kept_more script m.store.log m.answers demand_events (answer 0 k board) kept_started refl has_index.stands.reached in
+      let given : List ℕ → List Answered = λ text. record { c = 0; k = k; text = Some text } ∷ [] in
       subst (λ (es : List Event). IsRunAt script (k + 1) m' (state_after vbs es)) (sym events) (record {
         vbuckets = ap (λ (a : Accepted). a.vbuckets) store ∙ run.vbuckets;
         log = ap (λ (a : Accepted). a.log) store ∙ kept.log_is;
         opened = ap (λ (c : Client). c.opened) answered_client;
         next = ap (λ (c : Client). c.next) answered_client ∙ ap (λ (j : ℕ). j + 1) run.next;
         seen = seen ∙ (ap (λ v. join v board) run.seen ∙ sym (ap (λ (c : Client). c.seen) answered_client));
-        size = ap length seen ∙ (pointwise_length max m.seen board (run.size ∙ sym has_index.1.reached.size) ∙ run.size);
-        indexes = subst (λ (l : List Mutation). HoldsIndexes vbs l m'.index (state_after vbs answered_events).indexes) (sym (ap (λ (a : Accepted). a.log) store))
-            (subst (λ (o : Option IndexBuild). HoldsIndexes vbs m.store.log o (state_after vbs answered_events).indexes) (sym (held ∙ there)) (answered_indexes, has_index.1));
-        answers = answers ∙ (ap (λ text. m.answers ++ given text) (sym (given_text index spans command)) ∙ (kept.answers_are ∙ ap (answers_of script) (sym events)));
+        size = ap length seen ∙ (pointwise_length max m.seen board (run.size ∙ sym has_index.stands.reached.size) ∙ run.size);
+        indexes =
+            let s = state_after vbs answered_events in
+            subst (λ (l : List Mutation). HoldsIndexes vbs l m'.index s.live s.defs (s.published 0)) (sym (ap (λ (a : Accepted). a.log) store))
+            (subst (λ (o : Option IndexBuild). HoldsIndexes vbs m.store.log o s.live s.defs (s.published 0)) (sym (held ∙ there)) answered_index);
+        answers = answers ∙ (ap (λ text. m.answers ++ given text) (sym (given_text index spans ask command)) ∙ (kept.answers_are ∙ ap (answers_of script) (sym events)));
         reached = subst (λ (es : List Event). AllByRecursion (IsReached vbs m'.store.log) es) (sym events)
             (subst (λ (l : List Mutation). AllByRecursion (IsReached vbs l) answered_events) (sym (ap (λ (a : Accepted). a.log) store)) kept.reached);
       })

@@ -1,2 +1,9 @@
 pub mod Replay
+pub mod Machine
+pub mod ScheduleLines
+pub mod ClientActions
+pub mod FinalReplay
+pub mod Running
+pub mod Slots
+pub mod WorkedReplays
 pub mod inner

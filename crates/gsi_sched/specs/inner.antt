@@ -1,3 +1,5 @@
 -- For private clauses: a reader of the public clauses needs nothing of it.
 pub mod Run
 pub mod Statement
+pub mod Below
+pub mod Stood

@@ -1,9 +1,8 @@
 ghost use Rattle.std.specs.Prelude.{◌≡◌, ◌<◌, ◌+◌, ◌^◌, length, Some, is_some, OnOk};
 ghost use Rattle.std.specs.Option.{option_copied};
-ghost use Rattle.scan_history.specs.Answers.{command_at};
-ghost use Rattle.gsi_sched.specs.Replay.{commands_of};
+ghost use Rattle.scan_history.specs.First.{commands_of, command_at};
 ghost use Rattle.gsi_sched.specs.inner.Run.{IsRun, IsAfter, IsPlayed};
-ghost use Rattle.scan_history.specs.Sound.{MayCome, made_after};
+ghost use Rattle.scan_history.specs.Supported.{MayCome, made_after};
 
 use crate::replay_state::{ReplayState, create, delete, scan, upsert};
 use n1ql_value::Memory;
@@ -50,7 +49,7 @@ fn perform(
         Command::Upsert { id, doc } => upsert(alloc, script, state, k, id, doc),
         Command::Delete { id } => delete(alloc, script, state, k, id),
         Command::Ddl { text } => create(alloc, script, state, k, text),
-        Command::Scan { index, spans } => scan(alloc, script, state, k, index, spans),
+        Command::Scan { index, spans, ask } => scan(alloc, script, state, k, index, spans, ask),
     }
 }
 

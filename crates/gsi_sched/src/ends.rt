@@ -1,5 +1,6 @@
-ghost use Rattle.std.specs.Prelude.{◌≡◌, ◌++◌, length, true, IfOk, OnOk};
+ghost use Rattle.std.specs.Prelude.{◌≡◌, ◌++◌, length, IfOk, OnOk};
 ghost use Rattle.std.specs.Arc.{arc_value};
+ghost use Rattle.n1ql_value.specs.declared.state.State.TheVariants.{Online};
 ghost use Rattle.scan_history.specs.declared.done.End.{End as an_end};
 ghost use Rattle.scan_history.specs.Fold.{state_after};
 ghost use Rattle.scan_history.specs.Answers.{answers_of, ends_of};
@@ -8,18 +9,18 @@ ghost use Rattle.gsi_sched.specs.inner.Run.{IsPlayed};
 
 use crate::index_build::{IndexBuild, catch_up};
 use crate::replay_state::{ReplayState, push_publication};
-use n1ql_value::Memory;
+use n1ql_value::{Memory, State};
 use scan_history::{End, EndList, Script};
 use std::alloc::Global;
 
 /// How the index ended.
 fn end_of(alloc: Global, built: &IndexBuild) -> Result<End, Memory>
-    ensures { IfOk result (λ end. end ≡ (record { i = 0; name = (arc_value built.now.def).name; online = true; vector = arc_value built.now.published; rows = length built.now.snapshot })) }
+    ensures { IfOk result (λ end. end ≡ (record { i = 0; name = (arc_value built.now.def).name; state = Online; vector = arc_value built.now.published; rows = length built.now.snapshot })) }
 {
     Ok(End {
         i: 0,
         name: built.def.name.copy(alloc)?,
-        online: true,
+        state: State::Online,
         vector: built.published.copy(alloc)?,
         rows: built.snapshot.len(),
     })

@@ -10,7 +10,7 @@ ghost use Rattle.index_def.specs.Keys.{keys_of};
 ghost use Rattle.n1ql_value.specs.Documents.{Documents};
 ghost use Rattle.index_state.specs.Index.{HoldsKeys};
 ghost use Rattle.gsi_sched.specs.Replay.{catch_up};
-ghost use Rattle.gsi_sched.specs.inner.Run.{StandsFor, shown, publications, published_after};
+ghost use Rattle.gsi_sched.specs.inner.Run.{StandsFor, publications, published_after};
 
 use index_def::IndexDef;
 use index_state::IndexState;
@@ -141,7 +141,7 @@ pub(crate) fn catch_up(
     ensures def { OnOk result (arc_value built.new.def ≡ arc_value built.old.def) }
     ensures newest { OnOk result (arc_value built.new.published ≡ high_of store.now.vbuckets store.now.log) }
     ensures published { IfOk result (λ at. publications at
-        ≡ catch_up (high_of store.now.vbuckets store.now.log) (shown built.old)) }
+        ≡ catch_up (high_of store.now.vbuckets store.now.log) 0 (arc_value built.old.published)) }
     ensures board { IfOk result (λ at. arc_value built.new.published ≡ published_after at (arc_value built.old.published)) }
 {
     store.vbuckets();

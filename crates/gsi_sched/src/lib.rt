@@ -4,11 +4,14 @@
 
 mod client;
 mod ends;
+pub mod heart;
 mod index_build;
+pub mod laws;
 mod replay_state;
 mod rows_text;
 mod script_replay;
 mod statement;
+pub mod worked_replays;
 
 pub use script_replay::replay;
 

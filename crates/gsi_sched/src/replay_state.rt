@@ -2,7 +2,7 @@ ghost use Rattle.std.specs.Prelude.{◌≡◌, ◌<◌, ◌≤◌, ◌+◌, ◌+
 ghost use Rattle.vb_store.specs.Mutations.{next_mutation};
 ghost use Rattle.index_def.specs.Forms.{IsFormed};
 ghost use Rattle.scan_history.specs.Ddl.{defined_field};
-ghost use Rattle.scan_history.specs.Answers.{command_at};
+ghost use Rattle.scan_history.specs.First.{command_at};
 ghost use Rattle.scan_history.specs.Events.{mutate as mutate_event, online as online_event};
 ghost use Rattle.scan_history.specs.declared.command.Command.TheVariants as command;
 ghost use Rattle.std.specs.Arc.{arc_value};
@@ -17,7 +17,7 @@ use crate::statement::definition;
 use index_def::IndexDef;
 use index_state::laws::{nothing_is_the_index_of_nothing, rows_are_the_index};
 use n1ql_value::{ListOf, Memory, Spans, Text, Value};
-use scan_history::{AnswerList, Answered, Event, Events, Happened, Numbers, Script};
+use scan_history::{AnswerList, Answered, Ask, Event, Events, Happened, Numbers, Script};
 use seq_vector::Vector;
 use std::alloc::Global;
 use std::sync::Arc;
@@ -175,8 +175,9 @@ pub(crate) fn scan(
     k: u32,
     index: &Text,
     spans: &Spans,
+    ask: &Ask,
 ) -> Result<(), Memory>
-    requires command { command_at script.now 0 k ≡ Some (command.Scan index.now spans.now) }
+    requires command { command_at script.now 0 k ≡ Some (command.Scan index.now spans.now ask.now) }
     requires made { IsSome state.old.index }
     requires run { IsRun script.now k state.old }
     ensures run { OnOk result (IsRun script.now (k + 1) state.new) }
@@ -196,7 +197,11 @@ pub(crate) fn scan(
                 demand,
             }))?;
             state.seen.join_in(&at);
-            state.answers.push(Answered { c: 0, k, text })?;
+            state.answers.push(Answered {
+                c: 0,
+                k,
+                text: Some(text),
+            })?;
             state
                 .events
                 .push(Happened::new(Event::Answer { c: 0, k, at }))

@@ -3,7 +3,8 @@ ghost use Rattle.std.specs.Arc.{arc_value};
 ghost use Rattle.scan_history.specs.Answers.{answers_of, ends_of};
 ghost use Rattle.gsi_sched.specs.Replay.{replay_of};
 ghost use Rattle.gsi_sched.specs.inner.Run.{IsPlayed};
-ghost use Rattle.scan_history.specs.Sound.{IsSound, IsSupported};
+ghost use Rattle.scan_history.specs.Sound.{IsSound};
+ghost use Rattle.scan_history.specs.Supported.{IsSupported};
 
 use crate::client::{command_count, perform_all};
 use crate::ends::close;

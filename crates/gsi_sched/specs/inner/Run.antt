@@ -1,24 +1,28 @@
 -- What the replay has made so far, held to the history that it has given. For private clauses.
-use Rattle.std.specs.Prelude.{◌≡◌, ℕ, ◌*◌, ◌≤◌, List, [], ◌∷◌, length, take, drop, true, is_some, Option, Some, None, ⊤}
+use Rattle.std.specs.Prelude.{◌≡◌, ℕ, ◌*◌, ◌≤◌, List, [], ◌∷◌, length, take, drop, is_some, Option, Some, None, ⊤}
 use Rattle.std.specs.Arc.{arc_value}
 use Rattle.std.specs.List.{AllByRecursion}
 use Rattle.std.specs.FinMap as map
 use Rattle.std.specs.declared.sync.Arc.{Arc}
 use Rattle.std.specs.declared.alloc.Global.{Global}
-use Rattle.seq_vector.specs.Vectors.{IsCovered}
+use Rattle.seq_vector.specs.Vectors.{zeros, IsCovered}
 use Rattle.vb_store.specs.declared.mutation.Mutation.{Mutation}
 use Rattle.vb_store.specs.Mutations.{high_of}
 use Rattle.vb_store.specs.Documents.{with_mutations, documents_at}
+use Rattle.n1ql_value.specs.declared.state.State.TheVariants.{Online}
+use Rattle.index_def.specs.declared.definition.IndexDef.{IndexDef}
+use Rattle.index_def.specs.LiveIndexes.{Live}
 use Rattle.index_def.specs.Forms.{IsFormed}
 use Rattle.index_def.specs.Keys.{keys_of}
 use Rattle.index_def.specs.Index.{index_of}
 use Rattle.index_state.specs.Index.{HoldsKeys}
 use Rattle.scan_history.specs.declared.script.Script.{Script}
 use Rattle.scan_history.specs.Events.{Event, publish, answer}
-use Rattle.scan_history.specs.Fold.{nothing, Index, State, state_after}
+use Rattle.scan_history.specs.First.{commands_of}
+use Rattle.scan_history.specs.Fold.{nothing, State, state_after}
 use Rattle.scan_history.specs.Answers.{answers_of}
-use Rattle.gsi_sched.specs.Replay.{commands_of, after_actions}
-use Rattle.scan_history.specs.Sound.{IsInOrder}
+use Rattle.scan_history.specs.Supported.{IsInOrder}
+use Rattle.gsi_sched.specs.Replay.{after_actions}
 use Rattle.gsi_sched.specs.declared.index_build.IndexBuild.{IndexBuild}
 use Rattle.gsi_sched.specs.declared.replay_state.ReplayState.{ReplayState}
 
@@ -37,12 +41,25 @@ pub record StandsFor (n : ℕ) (log : List Mutation) (b : IndexBuild) : Type 0 w
   pub reached : IsReachedAt n log (arc_value b.published)
 
 -- the index as a history shows it, once it is online
-abbrev pub shown : IndexBuild → Index
-shown b = record { number = 0; def = arc_value b.def; online = true; published = arc_value b.published }
+abbrev pub shown : IndexDef → Live
+shown def = record { number = 0; def = def; state = Online }
 
-abbrev pub HoldsIndexes : ℕ → List Mutation → Option IndexBuild → List Index → Type 0
-HoldsIndexes n log None xs = xs ≡ []
-HoldsIndexes n log (Some b) xs = (xs ≡ shown b ∷ []) × StandsFor n log b
+-- no index was made, of n vBuckets: none is live, none defined, and number 0 was never published
+pub record IsEmpty (n : ℕ) (live : List Live) (defs : List IndexDef) (board : List ℕ) : Type 0 where
+  pub none_live : live ≡ []
+  pub none_defined : defs ≡ []
+  pub unpublished : board ≡ zeros n
+
+-- the one index is the only one that is live and was ever defined, and its newest publication is the board of number 0
+pub record IsTheOne (n : ℕ) (log : List Mutation) (b : IndexBuild) (live : List Live) (defs : List IndexDef) (board : List ℕ) : Type 0 where
+  pub live_is : live ≡ shown (arc_value b.def) ∷ []
+  pub defined : defs ≡ arc_value b.def ∷ []
+  pub newest : board ≡ arc_value b.published
+  pub stands : StandsFor n log b
+
+abbrev pub HoldsIndexes : ℕ → List Mutation → Option IndexBuild → List Live → List IndexDef → List ℕ → Type 0
+HoldsIndexes n log None live defs board = IsEmpty n live defs board
+HoldsIndexes n log (Some b) live defs board = IsTheOne n log b live defs board
 
 -- an answer was given at a vector that the newest numbers cover
 abbrev pub IsReached : ℕ → List Mutation → Event → Type 0
@@ -57,7 +74,7 @@ pub record IsRunAt (script : Script) (k : ℕ) (m : ReplayState) (s : State) : T
   pub next : (s.client 0).next ≡ k
   pub seen : m.seen ≡ (s.client 0).seen
   pub size : length m.seen ≡ script.vbuckets
-  pub indexes : HoldsIndexes script.vbuckets m.store.log m.index s.indexes
+  pub indexes : HoldsIndexes script.vbuckets m.store.log m.index s.live s.defs (s.published 0)
   pub answers : m.answers ≡ answers_of script m.events
   pub reached : AllByRecursion (IsReached script.vbuckets m.store.log) m.events
 

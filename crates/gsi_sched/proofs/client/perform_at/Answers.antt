@@ -1,8 +1,8 @@
 use Rattle.std.proofs.Common.{sym, ap, ◌∙◌}
 use Rattle.std.specs.Option.{option_copied}
 use Rattle.gsi_sched.proofs.Applied.{not_past}
-use Rattle.gsi_sched.specs.Replay.{commands_of}
-use Rattle.gsi_sched.proofs.Plays.{command_in_list, order_at, played_more, on_ok_three}
+use Rattle.scan_history.specs.First.{commands_of}
+use Rattle.gsi_sched.proofs.Plays.{order_at, played_more, on_ok_three}
 use Rattle.gsi_sched.proofs.client.perform_at.Goals as goal
 
 pub perform-requires-clause-comes : goal.perform-requires-clause-comes
@@ -11,7 +11,7 @@ perform-requires-clause-comes c =
 
 pub unreachable-requires : goal.unreachable-requires
 unreachable-requires c =
-    not_past (commands_of c.args.script.now 0) c.args.k (sym (command_in_list c.args.script.now c.args.k) ∙ (sym c.command_at.ensures ∙ ap option_copied c.in-None.is)) c.requires.within
+    not_past (commands_of c.args.script.now 0) c.args.k (sym c.command_at.ensures ∙ ap option_copied c.in-None.is) c.requires.within
 
 pub returns : goal.returns
 returns c =

@@ -4,7 +4,7 @@ use Rattle.seq_vector.specs.Vectors.{zeros}
 use Rattle.vb_store.specs.Mutations.{high_of}
 use Rattle.scan_history.specs.Events.{define, online}
 use Rattle.gsi_sched.specs.Replay.{catch_up}
-use Rattle.gsi_sched.specs.inner.Run.{StandsFor, shown, publications, published_after}
+use Rattle.gsi_sched.specs.inner.Run.{StandsFor, publications, published_after}
 use Rattle.gsi_sched.proofs.Runs.{run_created, events_created}
 use Rattle.gsi_sched.proofs.Actions.{created}
 use Rattle.gsi_sched.proofs.replay_state.create.Goals as goal
@@ -36,6 +36,6 @@ returns-clause-after c =
     let built = c.in_ok-built.built in
     created script k m c.args.text.now def at built c.push_online.new.events c.requires.run c.requires.none c.requires.command c.in_ok-def.ensures.reads
     (c.in_ok-built.ensures.board ∙ ap zeros c.requires.run.vbuckets)
-    (c.in_ok-at.ensures.published ∙ ap (λ (i : ℕ). catch_up (high_of i m.store.log) (shown built)) c.requires.run.vbuckets)
+    (c.in_ok-at.ensures.published ∙ ap (λ (i : ℕ). catch_up (high_of i m.store.log) 0 (arc_value built.published)) c.requires.run.vbuckets)
     (events_created m.events c.push.new.self c.push_publication.new.events c.push_online.new.events (publications at) c.new.result (define 0 k 0 false def) (online 0 k (0 ∷ []))
     c.in_ok-push.ensures.ok (c.new.ensures ∙ ap (define 0 k 0 false) c.in_ok-shown.ensures) c.in_ok-push_publication.ensures c.in_ok-push_online.ensures)
