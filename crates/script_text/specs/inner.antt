@@ -2,3 +2,4 @@
 pub mod Lines
 pub mod ReportMembers
 pub mod Demands
+pub mod Limits
