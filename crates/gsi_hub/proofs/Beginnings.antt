@@ -1,9 +1,9 @@
 -- The worker of a new index stands for any mutations.
-use Rattle.std.proofs.Common.{◌≡◌, ℕ, zero, suc, ◌<◌, List, [], length, replicate, slice_get, Option, Some, refl, sym, ap, ◌∙◌, arith}
+use Rattle.std.proofs.Common.{◌≡◌, ℕ, zero, suc, ◌<◌, ◌≤◌, List, [], length, replicate, get_or, slice_get, Option, Some, refl, sym, ap, ◌∙◌, arith}
 use Rattle.std.proofs.lemmas.List.{length-replicate, get_or-replicate}
 use Rattle.std.specs.Prelude.{unwrap_or}
 use Rattle.std.specs.Option.{option_map_or}
-use Rattle.std.specs.FinMap.{empty, get-empty}
+use Rattle.std.specs.FinMap.{get, empty, get-empty}
 use Rattle.std.specs.Cmp.Lexicographic.{slice_cmp}
 use Rattle.std.specs.Ordering.{nat_cmp}
 use Rattle.n1ql_value.specs.Documents.{Documents}
@@ -11,7 +11,7 @@ use Rattle.n1ql_value.specs.declared.row.Row.{Row}
 use Rattle.n1ql_value.specs.declared.value.Value.{Value}
 use Rattle.seq_vector.specs.Vectors.{entry, zeros}
 use Rattle.vb_store.specs.declared.mutation.Mutation.{Mutation}
-use Rattle.vb_store.specs.Mutations.{IsNumbered}
+use Rattle.vb_store.specs.Mutations.{IsNumbered, high_of}
 use Rattle.vb_store.specs.Documents.{documents_at}
 use Rattle.index_def.specs.declared.definition.IndexDef.{IndexDef}
 use Rattle.index_def.specs.Keys.{keys_of}

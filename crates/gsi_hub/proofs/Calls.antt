@@ -1,8 +1,9 @@
 -- What a hub keeps when a call adds its event.
-use Rattle.std.proofs.Common.{◌≡◌, ℕ, ◌+◌, ◌<◌, Bool, List, [], ◌∷◌, ◌++◌, length, set, Option, Some, None, ◌==◌, refl, sym, ap, ◌∙◌, subst, eq-eqb, arith}
+use Rattle.std.proofs.Common.{◌≡◌, ◌≢◌, ℕ, ◌+◌, ◌<◌, ◌≤◌, Bool, true, false, cond, List, [], ◌∷◌, ◌++◌, length, set, Option, Some, None, ◌==◌, refl, sym, ap, ◌∙◌, subst, eq-eqb, arith}
 use Rattle.std.proofs.lemmas.Bool.{ne_eqb, cond-true, cond-false}
 use Rattle.std.specs.Arc.{arc_value}
 use Rattle.std.specs.List.{AllByRecursion}
+use Rattle.seq_vector.specs.Vectors.{join}
 use Rattle.vb_store.specs.Accepted.{Accepted}
 use Rattle.vb_store.specs.declared.mutation.Mutation.{Mutation}
 use Rattle.vb_store.specs.Mutations.{IsNumbered, high_of}
@@ -19,7 +20,7 @@ use Rattle.scan_history.specs.Fold.{Client, State, started, work, closed, own_st
 use Rattle.scan_history.specs.Legal.{MayFollow}
 use Rattle.scan_history.specs.Readings.{Read, AreRead}
 use Rattle.gsi_hub.specs.Snapshots.{IsNewest}
-use Rattle.gsi_hub.specs.inner.Kept.{IsHub}
+use Rattle.gsi_hub.specs.inner.Kept.{Holds, IsHub}
 use Rattle.gsi_hub.specs.inner.Known.{Known}
 use Rattle.gsi_hub.specs.inner.Newest.{AreNewest}
 use Rattle.gsi_hub.specs.inner.Steps.{with_wrote, with_seen, with_opened}

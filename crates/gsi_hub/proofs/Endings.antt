@@ -1,13 +1,13 @@
 -- What the building of indexes may end with, index after index.
-use Rattle.std.proofs.Common.{◌≡◌, ◌≢◌, ℕ, zero, suc, ◌==◌, ◌≤◌, Bool, true, false, cond, List, [], ◌∷◌, ◌++◌, min, inl, inr, refl, sym, ap, ◌∙◌, subst, eq-eqb, arith}
+use Rattle.std.proofs.Common.{◌≡◌, ◌≢◌, ℕ, zero, suc, ◌==◌, ◌≤◌, Bool, true, false, cond, List, [], ◌∷◌, ◌++◌, filter, min, Option, Some, None, inl, inr, refl, sym, ap, ◌∙◌, subst, eq-eqb, arith}
 use Rattle.std.proofs.Math.Nat.{min-le_left, min-le_right, min-eq_left, min-eq_right}
 use Rattle.std.proofs.lemmas.List.Elements.{filter-append}
-use Rattle.std.specs.Prelude.{is_some, ◌||◌, ◌⊎◌}
+use Rattle.std.specs.Prelude.{IsTrue, is_some, ◌||◌, ◌⊎◌}
 use Rattle.std.specs.List.{AllByRecursion, list_any}
 use Rattle.seq_vector.specs.Vectors.{IsCovered}
-use Rattle.index_def.specs.LiveIndexes.{numbered}
+use Rattle.index_def.specs.LiveIndexes.{Live, numbered}
 use Rattle.scan_history.specs.Fold.{State}
-use Rattle.scan_history.specs.Legal.{live_among}
+use Rattle.scan_history.specs.Legal.{IfLive, live_among}
 use Rattle.gsi_hub.specs.declared.ending.Ending.{Ending}
 use Rattle.gsi_hub.specs.declared.ending.Ending.TheVariants.{Dropped, Lags, Covered}
 use Rattle.gsi_hub.specs.Outcomes.{IsLeastThatLags}

@@ -1,13 +1,15 @@
 -- The first action of a client's next command, by what kind of command it is.
 use Rattle.std.proofs.Common.{◌≡◌, ℕ, List, Option, Some, None, refl, sym, ap, ◌∙◌, subst}
 use Rattle.std.specs.Prelude.{option_map}
+use Rattle.n1ql_value.specs.declared.range.Range.{Range}
 use Rattle.n1ql_value.specs.declared.value.Value.{Value}
+use Rattle.vb_store.specs.declared.mutation.Mutation.{Mutation}
 use Rattle.vb_store.specs.Mutations.{next_mutation}
 use Rattle.scan_history.specs.declared.ask.Ask.{Ask}
 use Rattle.scan_history.specs.declared.command.Command.{Command}
 use Rattle.scan_history.specs.declared.command.Command.TheVariants.{Upsert, Delete, Ddl, Scan}
 use Rattle.scan_history.specs.declared.script.Script.{Script}
-use Rattle.scan_history.specs.Events.{mutate}
+use Rattle.scan_history.specs.Events.{Event, mutate}
 use Rattle.scan_history.specs.First.{command_at, first_of, first_of_scan, first_of_text}
 use Rattle.scan_history.specs.Fold.{State}
 use Rattle.scan_history.specs.Sound.{IsSound, IsWithinBounds}

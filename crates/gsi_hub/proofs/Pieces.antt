@@ -1,12 +1,12 @@
 -- Pieces of what was accepted above a vector, vBucket after vBucket.
-use Rattle.std.proofs.Common.{◌≡◌, ℕ, zero, suc, ◌+◌, ◌<◌, ◌≤◌, true, false, cond, List, [], ◌∷◌, ◌++◌, nat_lt, refl, ap, ◌∙◌, arith}
+use Rattle.std.proofs.Common.{◌≡◌, ℕ, zero, suc, ◌+◌, ◌-◌, ◌<◌, ◌≤◌, Bool, true, false, cond, List, [], ◌∷◌, ◌++◌, length, nat_lt, refl, sym, ap, ◌∙◌, subst, arith}
 use Rattle.std.proofs.lemmas.Bool.Decides.{nat_tests}
 use Rattle.std.proofs.lemmas.Bool.{cond_both}
 use Rattle.std.proofs.lemmas.Grind.{flat_map-append}
 use Rattle.std.specs.List.{AllByRecursion, flat_map, range_with_len}
 use Rattle.seq_vector.specs.Vectors.{entry}
 use Rattle.vb_store.specs.declared.mutation.Mutation.{Mutation}
-use Rattle.vb_store.specs.Mutations.{IsNumbered, high_of}
+use Rattle.vb_store.specs.Mutations.{IsNumbered, high_of, slice_of}
 use Rattle.dcp_stream.specs.declared.piece.Piece.{Piece}
 use Rattle.dcp_stream.specs.Pieces.{PieceStands}
 use Rattle.gsi_hub.specs.Pieces.{piece_between, piece_above, pieces_above}

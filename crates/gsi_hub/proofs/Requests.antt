@@ -1,9 +1,14 @@
 -- Requests that are open, and what may answer them.
-use Rattle.std.proofs.Common.{◌≡◌, ℕ, List, true, length, Option, Some, None, MatchOption, refl, sym, ap, ◌∙◌, subst}
+use Rattle.std.proofs.Common.{◌≡◌, ℕ, ◌<◌, List, true, length, Option, Some, None, MatchOption, refl, sym, ap, ◌∙◌, subst}
 use Rattle.std.specs.Arc.{arc_value}
 use Rattle.vb_store.specs.Mutations.{high_of}
 use Rattle.seq_vector.specs.Vectors.{IsCovered}
+use Rattle.n1ql_value.specs.declared.range.Range.{Range}
+use Rattle.scan_coord.specs.Demands.{IsSized}
 use Rattle.index_def.specs.LiveIndexes.{Live, numbered}
+use Rattle.scan_history.specs.declared.ask.Ask.{Ask}
+use Rattle.scan_history.specs.declared.command.Command.{Command}
+use Rattle.scan_history.specs.declared.command.Command.TheVariants.{Scan}
 use Rattle.scan_history.specs.declared.script.Script.{Script}
 use Rattle.scan_history.specs.Consistent.{IsOpenSince}
 use Rattle.scan_history.specs.Events.{Event}

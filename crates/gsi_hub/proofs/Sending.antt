@@ -1,6 +1,7 @@
 -- A hub may go to another thread. The steps are told one by one, since a search for the whole comes to the end of its steps.
 use denote.Param.Send.{IsSend, IsSync, sendable}
 use Rattle.std.proofs.Crossing.{crosses}
+use Rattle.std.proofs.MapsCrossing.{crosses as maps}
 use Rattle.n1ql_value.proofs.list_of.ListOf.TheSendSync.{the_send as list, the_sync as shared_list}
 use Rattle.n1ql_value.proofs.pairs.Pairs.TheLaws.TheKnot.{crosses as values}
 use Rattle.n1ql_value.proofs.text.Text.TheSendSync.{the_send, the_sync}

@@ -1,9 +1,9 @@
 -- The indexes that are built aren't deferred, event after event.
-use Rattle.std.proofs.Common.{◌≡◌, ◌≢◌, ℕ, ◌<◌, Bool, true, false, List, [], ◌∷◌, ◌++◌, length, Option, Some, None, refl, sym, subst}
+use Rattle.std.proofs.Common.{◌≡◌, ◌≢◌, ℕ, ◌+◌, ◌<◌, Bool, true, false, cond, List, [], ◌∷◌, ◌++◌, length, Option, Some, None, refl, sym, ap, ◌∙◌, subst}
 use Rattle.std.specs.List.{AllByRecursion}
 use Rattle.vb_store.specs.Mutations.{high_of}
 use Rattle.n1ql_value.specs.declared.state.State.TheVariants.{Deferred, Building}
-use Rattle.index_def.specs.LiveIndexes.{Live, numbered, AreNumbered}
+use Rattle.index_def.specs.LiveIndexes.{Live, numbered, AreNumbered, state_at_creation}
 use Rattle.scan_history.specs.declared.script.Script.{Script}
 use Rattle.scan_history.specs.Consistent.{IsConsistent, IsOpenSince}
 use Rattle.scan_history.specs.Events.{Event, mutate, define, build, online, publish, removed, start, answer, pick, fetch, not_yet, refuse}

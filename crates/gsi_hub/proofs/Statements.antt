@@ -1,12 +1,13 @@
 -- What a statement comes to, by what the catalog says.
-use Rattle.std.proofs.Common.{◌≡◌, ℕ, suc, ◌+◌, ◌<◌, ◌≤◌, ◌==◌, Bool, true, false, not, cond, nat_le, List, [], ◌∷◌, ◌++◌, length, find, Option, Some, None, Result, Ok, Err, inl, inr, refl, sym, ap, ◌∙◌, subst, arith}
-use Rattle.std.specs.Prelude.{IsNone, IfSome, option_map, ◌⊎◌}
+use Rattle.std.proofs.Common.{◌≡◌, ℕ, suc, ◌+◌, ◌<◌, ◌≤◌, ◌==◌, Bool, true, false, not, cond, nat_le, List, [], ◌∷◌, ◌++◌, length, find, filter, Option, Some, None, Result, Ok, Err, inl, inr, refl, sym, ap, ◌∙◌, subst, arith}
+use Rattle.std.specs.Prelude.{IsNone, IfSome, is_some, option_map, ◌⊎◌, ⊤}
 use Rattle.std.specs.Option.{option_map_or}
+use Rattle.std.specs.List.{list_all}
 use Rattle.std.proofs.lemmas.Bool.Decides.{nat_tests}
 use Rattle.n1ql_value.specs.Limits.{max_indexes}
 use Rattle.index_def.specs.declared.definition.IndexDef.{IndexDef}
 use Rattle.index_def.specs.declared.reason.Reason.{Reason}
-use Rattle.index_def.specs.LiveIndexes.{Live, AreNumbered, is_named, named, numbers_of, first_of_each}
+use Rattle.index_def.specs.LiveIndexes.{Live, AreNumbered, is_named, named, numbers_of, first_of_each, is_live}
 use Rattle.index_ddl.specs.declared.fault.DdlFault.{DdlFault}
 use Rattle.index_ddl.specs.declared.fault.DdlFault.TheVariants.{Exists, Unknown, NotDeferred, TooMany, Memory}
 use Rattle.scan_history.specs.declared.why.Why.TheVariants.{Plain}

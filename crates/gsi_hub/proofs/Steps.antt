@@ -1,5 +1,5 @@
 -- What a hub keeps, event after event.
-use Rattle.std.proofs.Common.{◌≡◌, ◌≢◌, ℕ, zero, suc, ◌+◌, ◌==◌, ◌≤◌, ◌<◌, ◌^◌, true, false, List, [], ◌∷◌, ◌++◌, length, set, Option, Some, None, Result, Ok, Err, slice_get, get_or, inl, inr, refl, sym, ap, ◌∙◌, subst, eq-eqb, arith}
+use Rattle.std.proofs.Common.{◌≡◌, ◌≢◌, ℕ, zero, suc, ◌+◌, ◌==◌, ◌≤◌, ◌<◌, ◌^◌, Bool, true, false, cond, List, [], ◌∷◌, ◌++◌, length, set, Option, Some, None, Result, Ok, Err, slice_get, get_or, inl, inr, refl, sym, ap, ◌∙◌, subst, eq-eqb, arith}
 use Rattle.std.proofs.lemmas.Bool.{cases_eq, ne_eqb}
 use Rattle.std.proofs.lemmas.Option.{slice_get_within, slice_get-get_or}
 use Rattle.std.proofs.Math.ListN.{length-set}
@@ -17,12 +17,13 @@ use Rattle.index_snapshot.specs.Stands.{SnapshotStands}
 use Rattle.scan_history.specs.declared.command.Command.{Command}
 use Rattle.scan_history.specs.declared.script.Script.{Script}
 use Rattle.scan_history.specs.Events.{Event, mutate, define, build, online, publish, removed, start, answer, pick, fetch, not_yet, refuse, client_of}
+use Rattle.scan_history.specs.First.{commands_of}
 use Rattle.scan_history.specs.Fold.{Client, State, closed, own_step, is_of, step, state_after}
 use Rattle.scan_history.specs.Legal.{MayFollow, IsLegal}
 use Rattle.scan_history.specs.NextEvent.{next_event}
 use Rattle.scan_history.specs.Readings.{Read, AreRead}
 use Rattle.scan_history.specs.Sound.{IsSound}
-use Rattle.gsi_hub.specs.Past.{Past, state_of, MayCome, IsAsBefore, Adds, Acted}
+use Rattle.gsi_hub.specs.Past.{Past, state_of, part_in, MayCome, IsNextEvent, IsAsBefore, Adds, Acted}
 use Rattle.gsi_hub.specs.inner.Kept.{Holds, IsHub}
 use Rattle.gsi_hub.specs.inner.Known.{Known}
 use Rattle.gsi_hub.specs.inner.Newest.{AreNewest}

@@ -1,6 +1,7 @@
 -- The newest snapshot of an index.
-use Rattle.std.specs.Prelude.{◌≡◌, ℕ, Option, Some, None, IfSome, option_map, ⊤}
+use Rattle.std.specs.Prelude.{◌≡◌, ℕ, List, Option, Some, None, IfSome, option_map, ⊤}
 use Rattle.std.specs.Arc.{arc_value}
+use Rattle.vb_store.specs.Mutations.{high_of}
 use Rattle.index_def.specs.LiveIndexes.{Live, numbered}
 use Rattle.index_snapshot.specs.declared.snapshot.Snapshot.{Snapshot}
 use Rattle.index_snapshot.specs.Stands.{SnapshotStands}

@@ -2,12 +2,4 @@
 #![tactic(auto)]
 
 #[cfg(test)]
-mod history;
-#[cfg(test)]
-mod scripts;
-#[cfg(test)]
-mod snapshots;
-#[cfg(test)]
-mod steps;
-#[cfg(test)]
 mod tests;

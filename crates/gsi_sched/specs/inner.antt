@@ -3,3 +3,7 @@ pub mod Run
 pub mod Statement
 pub mod Below
 pub mod Stood
+pub mod SlotLists
+pub mod StreamSteps
+pub mod Following
+pub mod ClientTurns

@@ -7,6 +7,7 @@ mod ends;
 pub mod heart;
 mod index_build;
 pub mod laws;
+mod machine;
 mod replay_state;
 mod rows_text;
 mod script_replay;

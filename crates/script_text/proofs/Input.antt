@@ -3,7 +3,7 @@ use Rattle.std.proofs.Common.{◌≡◌, ℕ, suc, ◌+◌, ◌<◌, ◌≤◌, 
 use borrow.Author.Tests.{ltb-true, ltb-false}
 use Rattle.std.proofs.lemmas.List.{drop_all}
 use Rattle.std.specs.List.{position, position_or_len, before_first, after_first}
-use Rattle.script_text.specs.Input.{is_line_feed, in_front, lines_of, is_blank, numbered_after}
+use Rattle.script_text.specs.Input.{is_line_feed, in_front, lines_of}
 
 -- a byte in front of a first line is in front of all lines
 in_front-first : (b : ℕ) (bytes : List ℕ)
@@ -54,31 +54,3 @@ lines_of-last bytes h e =
     let past : length bytes ≤ m = no_place_cases (ltb m (length bytes)) m (length bytes) refl e in
     lines_of-cut bytes h ∙ ap (λ l. l ∷ lines_of (after_first is_line_feed bytes)) (take_all m bytes past)
     ∙ ap (λ l. bytes ∷ lines_of l) (drop_all (m + 1) bytes (omega arith))
-
--- no more lines than bytes
-in_front-few : (b : ℕ) (lines : List (List ℕ)) → length (in_front b lines) ≤ 1 + length lines
-in_front-few b [] = omega arith
-in_front-few b (line ∷ lines) = omega arith
-
-lines_few : (t : Bool) (b n : ℕ) (lines : List (List ℕ)) → length lines ≤ n → length (cond t ([] ∷ lines) (in_front b lines)) ≤ 1 + n
-lines_few true b n lines few = omega (arith, few)
-lines_few false b n lines few = omega (arith, few, in_front-few b lines)
-
-lines_of-few : (bytes : List ℕ) → length (lines_of bytes) ≤ length bytes
-lines_of-few [] = omega arith
-lines_of-few (b ∷ bytes) =
-    let few = lines_few (is_line_feed b) b (length bytes) (lines_of bytes) (lines_of-few bytes) in
-    omega (arith, few)
-
-numbered_few : (t : Bool) (line : ℕ × List ℕ) (n : ℕ) (lines : List (ℕ × List ℕ)) → length lines ≤ n → length (cond t lines (line ∷ lines)) ≤ 1 + n
-numbered_few true line n lines few = omega (arith, few)
-numbered_few false line n lines few = omega (arith, few)
-
-numbered_after-few : (n : ℕ) (lines : List (List ℕ)) → length (numbered_after n lines) ≤ length lines
-numbered_after-few n [] = omega arith
-numbered_after-few n (line ∷ lines) =
-    let few = numbered_few (is_blank line) (n + 1, line) (length lines) (numbered_after (n + 1) lines) (numbered_after-few (n + 1) lines) in
-    omega (arith, few)
-
-pub lines-few : (n : ℕ) (bytes : List ℕ) → length (numbered_after n (lines_of bytes)) ≤ length bytes
-lines-few n bytes = omega (arith, numbered_after-few n (lines_of bytes), lines_of-few bytes)

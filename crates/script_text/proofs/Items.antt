@@ -1,5 +1,5 @@
 -- What the lines say, line by line.
-use Rattle.std.proofs.Common.{◌≡◌, ℕ, suc, List, [], ◌∷◌, ◌++◌, length, Bool, false, Result, Ok, Err, refl, sym, ap, ap₂, ◌∙◌, append_assoc}
+use Rattle.std.proofs.Common.{◌≡◌, ℕ, List, [], ◌∷◌, ◌++◌, Bool, false, Result, Ok, Err, refl, sym, ap, ap₂, ◌∙◌, append_assoc}
 use Rattle.std.specs.Prelude.{◌||◌}
 use Rattle.scan_history.specs.declared.kind.Kind.{Kind}
 use Rattle.script_text.specs.declared.reader.script.item.Item.{Item}
@@ -31,26 +31,3 @@ items_from-turn whole sizes done new defined own line left lines item e steps sa
     ∙ (ap (λ (r : Result Item Kind). ahead done (and_then_lines line.0 r (λ i. items_from sizes (defined || defines i) lines))) says
     ∙ (ahead-more done item (items_from sizes (defined || defines item) lines)
     ∙ ap₂ (λ (is : List Item) (b : Bool). ahead is (items_from sizes (defined || b) lines)) (sym push) (sym ddl))))
-
--- as many items as lines
-length-ahead : (item : Item) (n : ℕ) (others : Result (List Item) (ℕ × Kind)) → ((items : List Item) → others ≡ Ok items → length items ≡ n)
-    → (items : List Item) → ahead (item ∷ []) others ≡ Ok items → length items ≡ suc n
-length-ahead item n (Ok others) count items e =
-    let all : item ∷ others ≡ items = cc in
-    ap length (sym all) ∙ ap suc (count others refl)
-length-ahead item n (Err line) count items e = absurd (cc)
-
-length-line : (number n : ℕ) (r : Result Item Kind) (after : Item → Result (List Item) (ℕ × Kind))
-    → ((item : Item) (items : List Item) → after item ≡ Ok items → length items ≡ n)
-    → (items : List Item) → and_then_lines number r after ≡ Ok items → length items ≡ suc n
-length-line number n (Ok item) after count items e = length-ahead item n (after item) (count item) items e
-length-line number n (Err kind) after count items e = absurd (cc)
-
-pub items_from-length : (sizes : Sizes) (defined : Bool) (lines : List (ℕ × List ℕ)) (items : List Item)
-    → items_from sizes defined lines ≡ Ok items → length items ≡ length lines
-items_from-length sizes defined [] items e =
-    let none : [] ≡ items = cc in
-    ap length (sym none)
-items_from-length sizes defined (line ∷ lines) items e =
-    length-line line.0 (length lines) (item_of_line sizes defined line.1) (λ item. items_from sizes (defined || defines item) lines)
-    (λ item. items_from-length sizes (defined || defines item) lines) items e

@@ -2,4 +2,3 @@
 pub mod Lines
 pub mod ReportMembers
 pub mod Demands
-pub mod Limits

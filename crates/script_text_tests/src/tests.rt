@@ -1,7 +1,7 @@
 use n1ql_json::write;
 use n1ql_value::{Memory, Range, Value};
 use scan_coord::Demand;
-use scan_history::{Ask, Command, Kind, Script, What};
+use scan_history::{Ask, Command, Script, What};
 use script_text::{ScriptFault, read_script};
 use std::alloc::Global;
 use std::process::Abort;
@@ -385,8 +385,6 @@ fn limits(rt: HostRuntime) -> Result<(), Fail> {
     let many = "{\"gsi\":1,\"vbuckets\":1024,\"clients\":1}\n";
     let defined =
         "{\"gsi\":1,\"vbuckets\":1,\"clients\":1}\n{\"c\":0,\"do\":\"ddl\",\"q\":\"CREATE INDEX ix ON ks(x)\"}\n";
-    let defined_in_many =
-        "{\"gsi\":1,\"vbuckets\":1024,\"clients\":1}\n{\"c\":0,\"do\":\"ddl\",\"q\":\"CREATE INDEX ix ON ks(x)\"}\n";
     let delete = "{\"c\":0,\"do\":\"delete\",\"id\":\"a\"}\n";
     let scan = "{\"c\":0,\"do\":\"scan\",\"index\":\"ix\"}\n";
     let past = |what, limit| Some(ScriptFault::TooLarge { what, limit });
@@ -396,29 +394,10 @@ fn limits(rt: HostRuntime) -> Result<(), Fail> {
         (many, delete, 4_097, past(What::Product, 4_194_304)),
         (defined, scan, 1_024, None),
         (defined, scan, 1_025, past(What::Scans, 1_024)),
-        (defined_in_many, scan, 4_096, past(What::Product, 4_194_304)),
     ] {
         let input = repeated(rt.alloc(), front, line, count)?;
         let found = read_script(rt.alloc(), &input).err();
         assert!(rt; found == want, "{front}{count}");
-    }
-    Ok(())
-}
-
-#[test]
-fn a_bad_line_goes_before_a_limit(rt: HostRuntime) -> Result<(), Fail> {
-    let one = "{\"gsi\":1,\"vbuckets\":1,\"clients\":1}\n";
-    let many = "{\"gsi\":1,\"vbuckets\":1024,\"clients\":1}\n";
-    let delete = "{\"c\":0,\"do\":\"delete\",\"id\":\"a\"}\n";
-    for (front, count, line) in [(one, 65_537, 65_539), (many, 4_097, 4_099)] {
-        let mut input = repeated(rt.alloc(), front, delete, count)?;
-        input.extend_from_slice(b"{\n")?;
-        let found = read_script(rt.alloc(), &input).err();
-        let kind = Kind::Syntax;
-        assert!(rt;
-            found == Some(ScriptFault::Line { line, kind }),
-            "{front}{count}"
-        );
     }
     Ok(())
 }

@@ -8,7 +8,7 @@ use Rattle.index_ddl.specs.declared.fault.DdlFault.{DdlFault}
 use Rattle.index_ddl.specs.declared.fault.DdlFault.TheVariants as fault
 use Rattle.scan_history.specs.declared.why.Why.TheVariants.{Plain}
 use Rattle.scan_history.specs.Events.{Event, define, refuse}
-use Rattle.scan_history.specs.Fold.{State}
+use Rattle.scan_history.specs.Fold.{State, published_step}
 use Rattle.scan_history.specs.Refusals as code
 use Rattle.gsi_hub.specs.declared.creation.Creation.{Creation}
 use Rattle.gsi_hub.specs.declared.defined.Defined.TheVariants.{Closed, Building}

@@ -10,7 +10,7 @@ use Rattle.index_ddl.specs.Catalogs.{Indexes}
 use Rattle.index_snapshot.specs.declared.snapshot.Snapshot.{Snapshot}
 use Rattle.scan_history.specs.declared.script.Script.{Script}
 use Rattle.scan_history.specs.Events.{Event}
-use Rattle.scan_history.specs.Fold.{Opened, work, Client, State, state_after}
+use Rattle.scan_history.specs.Fold.{Opened, nothing, work, started, picked, Client, State, state_after}
 use Rattle.scan_history.specs.Legal.{IsLegal}
 use Rattle.scan_history.specs.Sound.{IsSound}
 use Rattle.gsi_hub.specs.inner.Newest.{AreNewest}

@@ -1,5 +1,6 @@
 -- What the crates below promise of histories, vectors and snapshots.
-use Rattle.std.specs.Prelude.{◌≡◌, ◌≢◌, ℕ, ◌<◌, true, false, List, [], ◌∷◌, ◌++◌, length, Some, None}
+use Rattle.std.specs.Prelude.{◌≡◌, ◌≢◌, ℕ, ◌+◌, ◌<◌, true, false, List, [], ◌∷◌, ◌++◌, length, Some, None}
+use Rattle.seq_vector.specs.Vectors.{IsCovered, zeros, join, covers}
 use Rattle.n1ql_value.specs.declared.state.State.TheVariants.{Deferred}
 use Rattle.vb_store.specs.declared.mutation.Mutation.{Mutation}
 use Rattle.vb_store.specs.Mutations.{IsNumbered, high_of}

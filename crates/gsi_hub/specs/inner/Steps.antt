@@ -1,5 +1,6 @@
 -- Steps of the code, for private clauses.
-use Rattle.std.specs.Prelude.{◌≡◌, ◌≢◌, ◌⊎◌, ℕ, List, Option, Some, None, slice_set, ⊤}
+use Rattle.std.specs.Prelude.{◌≡◌, ◌≢◌, ◌⊎◌, ℕ, List, [], ◌∷◌, length, Option, Some, None, nat_le, slice_set, if◌then◌else◌, ⊤}
+use Rattle.std.specs.List.{AllByRecursion}
 use Rattle.n1ql_value.specs.declared.value.Value.{Value}
 use Rattle.seq_vector.specs.Vectors.{join, IsCovered}
 use Rattle.index_def.specs.LiveIndexes.{numbered}
@@ -9,9 +10,10 @@ use Rattle.scan_history.specs.declared.command.Command.TheVariants.{Upsert, Dele
 use Rattle.scan_history.specs.declared.why.Why.TheVariants.{Plain}
 use Rattle.scan_history.specs.Events.{Event, start, refuse, not_yet}
 use Rattle.scan_history.specs.First.{first_action}
-use Rattle.scan_history.specs.Fold.{Opened, nothing, work, Client, closed}
+use Rattle.scan_history.specs.Fold.{Opened, nothing, work, Client, closed, State}
 use Rattle.scan_history.specs.Legal.{IfLive}
 use Rattle.scan_history.specs.Readings.{Read, AreRead}
+use Rattle.scan_history.specs.Refusals as code
 use Rattle.gsi_hub.specs.declared.beginning.Beginning.{Beginning}
 use Rattle.gsi_hub.specs.declared.beginning.Beginning.TheVariants.{On, Refused}
 use Rattle.gsi_hub.specs.declared.part.Work.{Work}

@@ -1,5 +1,5 @@
 -- That what a call gives is the outcome that is defined for a line or for lines, where memory doesn't run out.
-use Rattle.std.specs.Prelude.{◌≡◌, ℕ, ◌<◌, ◌≤◌, List, [], ◌∷◌, ◌++◌, Option, Some, None, Result, Ok, Err, ⊤, slice_set, slice_index_or}
+use Rattle.std.specs.Prelude.{◌≡◌, ℕ, ◌<◌, ◌≤◌, List, [], ◌∷◌, ◌++◌, Result, Ok, Err, ⊤, slice_set, slice_index_or}
 use Rattle.n1ql_value.specs.Limits.{max_vbuckets}
 use Rattle.scan_history.specs.declared.command.Command.{Command}
 use Rattle.scan_history.specs.declared.turn.Turn.{Turn}
@@ -23,18 +23,6 @@ LinesReadAs outcome (Ok found) = outcome ≡ Ok found
 LinesReadAs outcome (Err (Line line kind)) = outcome ≡ Err (line, kind)
 LinesReadAs outcome (Err (TooLarge what limit)) = ⊥
 LinesReadAs outcome (Err Memory) = ⊤
-
--- the fault of a script whose line n has this one
-abbrev pub fault_at : ℕ → LineFault → ScriptFault
-fault_at n (line_fault.Bad kind) = Line n kind
-fault_at n line_fault.Memory = Memory
-
--- the first bad line, where there is one
-abbrev pub ChecksAs : Option (ℕ × Kind) → Result ⊤ ScriptFault → Type 0
-ChecksAs bad (Ok done) = bad ≡ None
-ChecksAs bad (Err (Line line kind)) = bad ≡ Some (line, kind)
-ChecksAs bad (Err (TooLarge what limit)) = ⊥
-ChecksAs bad (Err Memory) = ⊤
 
 -- so many vBuckets may there be
 abbrev pub IsVBucketCount : ℕ → Type 0

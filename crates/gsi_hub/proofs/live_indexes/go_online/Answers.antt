@@ -1,7 +1,7 @@
-use Rattle.std.proofs.Common.{◌≡◌, ℕ, suc, ◌+◌, List, ◌∷◌, drop, Some, slice_get, get_or, sym, ap, ◌∙◌, subst, arith}
+use Rattle.std.proofs.Common.{◌≡◌, ◌≢◌, ℕ, suc, ◌+◌, List, ◌∷◌, drop, Some, slice_get, get_or, sym, ap, ◌∙◌, subst, refl, arith}
 use Rattle.std.proofs.lemmas.Option.{slice_get-get_or}
 use Rattle.std.specs.List.{AllByRecursion}
-use Rattle.n1ql_value.specs.declared.state.State.TheVariants.{Online}
+use Rattle.n1ql_value.specs.declared.state.State.TheVariants.{Deferred, Online}
 use Rattle.index_def.specs.LiveIndexes.{Live, numbered, in_state, all_in_state}
 use Rattle.gsi_hub.specs.inner.Kept.{IsServed}
 use Rattle.gsi_hub.proofs.Keeping.{drop_next}

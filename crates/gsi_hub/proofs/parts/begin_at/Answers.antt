@@ -1,7 +1,8 @@
 use Rattle.std.proofs.Common.{◌<◌, length, arith}
 use Rattle.gsi_hub.specs.inner.Parts.{opened_of}
 use Rattle.gsi_hub.specs.inner.Steps.{with_opened}
-use Rattle.gsi_hub.proofs.PartLists.{parts_written}
+use Rattle.gsi_hub.specs.inner.Parts.{part_of}
+use Rattle.gsi_hub.proofs.PartLists.{part_there, parts_written}
 use Rattle.gsi_hub.proofs.parts.begin_at.Goals as goal
 
 pub returns : goal.returns

@@ -1,4 +1,4 @@
-use Rattle.std.proofs.Common.{◌≡◌, ◌<◌, length, sym, ◌∙◌, subst, arith}
+use Rattle.std.proofs.Common.{◌≡◌, ◌<◌, length, slice_get, Some, sym, ◌∙◌, ap, subst, arith}
 use Rattle.scan_history.specs.Fold.{Client, closed}
 use Rattle.gsi_hub.specs.Stages.{OnWork}
 use Rattle.gsi_hub.specs.inner.Parts.{part_of}

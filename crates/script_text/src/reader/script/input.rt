@@ -39,15 +39,6 @@ impl<'a> Lines<'a> {
             number: 0,
         }
     }
-
-    /// How many lines there are.
-    pub(crate) fn len(&self) -> usize
-        ensures { result ≡ length self.now }
-    {
-        let rest = self.rest;
-        let number = self.number;
-        Lines { rest, number }.count()
-    }
 }
 
 impl<'a> Iterator for Lines<'a> {

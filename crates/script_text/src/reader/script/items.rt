@@ -1,12 +1,12 @@
 ghost use Rattle.std.specs.Prelude.{◌≡◌, false};
-ghost use Rattle.std.specs.Result.{result_err};
-ghost use Rattle.script_text.specs.inner.Lines.{LinesReadAs, ChecksAs, IsVBucketCount};
+ghost use Rattle.script_text.specs.inner.Lines.{LinesReadAs, IsVBucketCount};
 ghost use Rattle.script_text.specs.Scripts.{is_ddl, defines, items_from};
 
 use crate::reader::format::sizes::Sizes;
 use crate::reader::script::input::Lines;
 use crate::reader::script::item::Item;
 use crate::reader::script::item_line::read_item_line;
+use crate::reader::script::line_fault::LineFault;
 use crate::reader::script::script_fault::ScriptFault;
 use n1ql_value::ListOf;
 use scan_history::Command;
@@ -29,25 +29,16 @@ pub(crate) fn items_from(
                 defined |= defines(&item);
                 items.push(item)?;
             }
-            Err(fault) => return Err(fault.at(line.number)),
+            Err(LineFault::Bad(kind)) => {
+                return Err(ScriptFault::Line {
+                    line: line.number,
+                    kind,
+                });
+            }
+            Err(LineFault::Memory) => return Err(ScriptFault::Memory),
         }
     }
     Ok(items)
-}
-
-/// That no line after the header is bad. What they say is not kept.
-pub(crate) fn check_lines(alloc: Global, sizes: Sizes, lines: Lines<'_>) -> Result<(), ScriptFault>
-    requires { IsVBucketCount sizes.vbuckets }
-    ensures { ChecksAs (result_err (items_from sizes false lines.entry)) result }
-{
-    let mut defined = false;
-    'lines: for line in lines {
-        match read_item_line(alloc, sizes, defined, line.bytes) {
-            Ok(item) => defined |= defines(&item),
-            Err(fault) => return Err(fault.at(line.number)),
-        }
-    }
-    Ok(())
 }
 
 /// Whether a line defines an index.

@@ -1,7 +1,3 @@
-ghost use Rattle.std.specs.Prelude.{◌≡◌};
-ghost use Rattle.script_text.specs.inner.Lines.{fault_at};
-
-use crate::reader::script::script_fault::ScriptFault;
 use n1ql_value::Memory as OutOfMemory;
 use scan_history::Kind;
 
@@ -12,18 +8,6 @@ pub(crate) enum LineFault {
     Bad(Kind),
     /// Memory ran out.
     Memory,
-}
-
-impl LineFault {
-    /// The same of a script, where this is the line's number.
-    pub(crate) fn at(self, line: u64) -> ScriptFault
-        ensures { result ≡ fault_at line self }
-    {
-        match self {
-            LineFault::Bad(kind) => ScriptFault::Line { line, kind },
-            LineFault::Memory => ScriptFault::Memory,
-        }
-    }
 }
 
 impl From<OutOfMemory> for LineFault {

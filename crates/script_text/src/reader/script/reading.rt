@@ -2,15 +2,15 @@ ghost use Rattle.std.specs.Prelude.{◌≡◌, ℕ, IfOk, Err, count_by, false};
 ghost use Rattle.scan_history.specs.Sound.{is_scan, IsSound};
 ghost use Rattle.scan_history.specs.Supported.{IsSupported};
 ghost use Rattle.script_text.specs.Items.{header_of_line};
-ghost use Rattle.script_text.specs.inner.Limits.{limit_passed, outcome_within_scans};
 ghost use Rattle.script_text.specs.inner.Lines.{IsVBucketCount};
 ghost use Rattle.script_text.specs.Reading.{ReadsAs};
-ghost use Rattle.script_text.specs.Scripts.{script_of, outcome_of, outcome_with_header, outcome_with_commands, items_from, script_with, is_scan_item};
+ghost use Rattle.script_text.specs.Scripts.{script_of, outcome_of, outcome_with_header, outcome_with_commands, outcome_in_limits, items_from, script_with, is_scan_item};
 
 use crate::reader::script::header::{Header, read_header};
 use crate::reader::script::input::{Line, Lines};
 use crate::reader::script::item::Item;
-use crate::reader::script::items::{check_lines, items_from};
+use crate::reader::script::items::items_from;
+use crate::reader::script::line_fault::LineFault;
 use crate::reader::script::lists::lists_of;
 use crate::reader::script::script_fault::ScriptFault;
 use n1ql_value::limits::{MAX_LINES, MAX_PRODUCT, MAX_SCANS};
@@ -53,7 +53,11 @@ fn read_header_line(alloc: Global, line: Line<'_>, lines: Lines<'_>) -> Result<S
 {
     match read_header(alloc, line.bytes) {
         Ok(header) => read_item_lines(alloc, header, lines),
-        Err(fault) => Err(fault.at(line.number)),
+        Err(LineFault::Bad(kind)) => Err(ScriptFault::Line {
+            line: line.number,
+            kind,
+        }),
+        Err(LineFault::Memory) => Err(ScriptFault::Memory),
     }
 }
 
@@ -61,42 +65,27 @@ fn read_item_lines(alloc: Global, header: Header, lines: Lines<'_>) -> Result<Sc
     requires { IsVBucketCount header.sizes.vbuckets }
     ensures { ReadsAs (outcome_with_commands header (items_from header.sizes false lines.entry)) result }
 {
-    match limit_passed(header.sizes.vbuckets, lines.len() as u64) {
-        // a bad line goes before a limit, so each is read, but what so many say is not kept
-        Some(passed) => {
-            check_lines(alloc, header.sizes, lines)?;
-            Err(passed)
-        }
-        None => {
-            let items = items_from(alloc, header.sizes, lines)?;
-            within_scans(alloc, header, items)
-        }
-    }
+    let items = items_from(alloc, header.sizes, lines)?;
+    within_limits(alloc, header, items)
 }
 
-/// The first limit that so many lines pass, where they pass one.
-fn limit_passed(vbuckets: u32, lines: u64) -> Option<ScriptFault>
-    ensures { result ≡ limit_passed vbuckets lines }
+#[tactic(auto, unfolding(crate::specs::Scripts::outcome_in_limits))]
+fn within_limits(alloc: Global, header: Header, items: ListOf<Item>) -> Result<Script, ScriptFault>
+    ensures { ReadsAs (outcome_in_limits header items) result }
 {
+    let lines = items.len() as u64;
     if lines > MAX_LINES as u64 {
-        return Some(ScriptFault::TooLarge {
+        return Err(ScriptFault::TooLarge {
             what: What::Lines,
             limit: MAX_LINES as u64,
         });
     }
-    if u64::from(vbuckets) * lines > MAX_PRODUCT as u64 {
-        return Some(ScriptFault::TooLarge {
+    if u64::from(header.sizes.vbuckets) * lines > MAX_PRODUCT as u64 {
+        return Err(ScriptFault::TooLarge {
             what: What::Product,
             limit: MAX_PRODUCT as u64,
         });
     }
-    None
-}
-
-/// The script of these, where they aren't too many lines.
-fn within_scans(alloc: Global, header: Header, items: ListOf<Item>) -> Result<Script, ScriptFault>
-    ensures { ReadsAs (outcome_within_scans header items) result }
-{
     if scans_in(items.as_slice()) > MAX_SCANS as u64 {
         return Err(ScriptFault::TooLarge {
             what: What::Scans,

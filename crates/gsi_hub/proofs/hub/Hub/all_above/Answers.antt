@@ -1,4 +1,4 @@
-use Rattle.std.proofs.Common.{◌++◌, List, ap, sym, ◌∙◌}
+use Rattle.std.proofs.Common.{◌≡◌, ◌++◌, List, ap, sym, ◌∙◌}
 use Rattle.dcp_stream.specs.declared.piece.Piece.{Piece}
 use Rattle.gsi_hub.specs.Past.{state_of, high_in}
 use Rattle.gsi_hub.specs.Pieces.{piece_above}

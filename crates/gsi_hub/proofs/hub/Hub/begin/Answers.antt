@@ -1,4 +1,4 @@
-use Rattle.std.proofs.Common.{◌≡◌, ℕ, ◌-◌, ◌<◌, List, [], ◌∷◌, ◌++◌, set, vec_len, refl, sym, ap, ◌∙◌, subst, arith}
+use Rattle.std.proofs.Common.{◌≡◌, ◌≢◌, ℕ, ◌+◌, ◌-◌, ◌<◌, ◌≤◌, ◌^◌, Bool, true, false, List, [], ◌∷◌, ◌++◌, length, set, vec_len, Option, Some, None, refl, sym, ap, ◌∙◌, subst, inl, inr, arith}
 use Rattle.std.specs.Prelude.{vec_capacity}
 use Rattle.std.specs.Arc.{arc_value}
 use Rattle.vb_store.specs.Mutations.{high_of}
@@ -8,7 +8,7 @@ use Rattle.gsi_hub.specs.Past.{Past, part_in, high_in, MayCome, Acted}
 use Rattle.gsi_hub.specs.inner.Kept.{IsHub}
 use Rattle.gsi_hub.specs.inner.Newest.{newest_of}
 use Rattle.gsi_hub.specs.inner.Parts.{parts_of}
-use Rattle.gsi_hub.specs.inner.Steps.{with_opened}
+use Rattle.gsi_hub.specs.inner.Steps.{IsFirstEvent, with_opened}
 use Rattle.gsi_hub.proofs.Calls.{hub_started}
 use Rattle.gsi_hub.proofs.Steps.{acted, first_comes, part_there_in}
 use Rattle.gsi_hub.proofs.hub.Hub.begin.Goals as goal

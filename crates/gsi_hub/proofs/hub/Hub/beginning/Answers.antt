@@ -2,7 +2,8 @@ use Rattle.std.proofs.Common.{◌≡◌, Option, Some, sym, ap, ◌∙◌, subst
 use Rattle.scan_history.specs.declared.command.Command.{Command}
 use Rattle.scan_history.specs.Events.{Event}
 use Rattle.scan_history.specs.First.{first_of_scan}
-use Rattle.gsi_hub.specs.Past.{state_of, part_in, next_command}
+use Rattle.scan_history.specs.Sound.{IsSound}
+use Rattle.gsi_hub.specs.Past.{Past, state_of, part_in, next_command}
 use Rattle.gsi_hub.specs.inner.Steps.{IsFirstEvent, IsRequestOf, beginning_of}
 use Rattle.gsi_hub.proofs.Firsts.{first_request, request_sized}
 use Rattle.gsi_hub.proofs.Steps.{ok_map}

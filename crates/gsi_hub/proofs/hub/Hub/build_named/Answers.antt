@@ -1,4 +1,4 @@
-use Rattle.std.proofs.Common.{◌≡◌, ℕ, ◌-◌, ◌<◌, List, [], ◌∷◌, ◌++◌, length, set, vec_len, None, refl, sym, ap, ◌∙◌, subst, arith}
+use Rattle.std.proofs.Common.{◌≡◌, ◌≢◌, ℕ, ◌+◌, ◌-◌, ◌<◌, ◌≤◌, ◌^◌, Bool, true, false, List, [], ◌∷◌, ◌++◌, length, set, vec_len, Option, Some, None, refl, sym, ap, ◌∙◌, subst, inl, inr, arith}
 use Rattle.std.specs.Prelude.{vec_capacity}
 use Rattle.std.specs.Arc.{arc_value}
 use Rattle.std.specs.List.{list_all}
@@ -8,7 +8,7 @@ use Rattle.index_ddl.specs.Catalogs.{build_fault}
 use Rattle.scan_history.specs.declared.why.Why.TheVariants.{Plain}
 use Rattle.scan_history.specs.Events.{Event, build, refuse}
 use Rattle.scan_history.specs.First.{first_of_build}
-use Rattle.scan_history.specs.Fold.{work, state_after}
+use Rattle.scan_history.specs.Fold.{Client, work, state_after}
 use Rattle.scan_history.specs.Refusals as code
 use Rattle.gsi_hub.specs.Outcomes.{IsDefined}
 use Rattle.gsi_hub.specs.declared.defined.Defined.TheVariants.{Building}
@@ -18,7 +18,7 @@ use Rattle.gsi_hub.specs.inner.Newest.{newest_of}
 use Rattle.gsi_hub.specs.inner.Parts.{parts_of}
 use Rattle.gsi_hub.specs.inner.Steps.{IsFirstEvent, with_opened}
 use Rattle.gsi_hub.proofs.Calls.{hub_built}
-use Rattle.gsi_hub.proofs.Statements.{no_fault, build_done, few_numbers}
+use Rattle.gsi_hub.proofs.Statements.{no_fault, build_done, build_refused, few_numbers}
 use Rattle.gsi_hub.proofs.Steps.{acted, first_comes, part_there_in}
 use Rattle.gsi_hub.proofs.hub.Hub.build_named.Goals as goal
 

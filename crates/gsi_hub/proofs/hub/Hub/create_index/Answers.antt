@@ -1,4 +1,5 @@
-use Rattle.std.proofs.Common.{sym, subst}
+use Rattle.std.proofs.Common.{◌≡◌, sym, subst}
+use Rattle.std.specs.Arc.{arc_value}
 use Rattle.index_def.specs.declared.definition.IndexDef.{IndexDef}
 use Rattle.index_def.specs.Forms.{IsFormed}
 use Rattle.gsi_hub.specs.Past.{state_of, part_in}

@@ -1,4 +1,4 @@
-use Rattle.std.proofs.Common.{◌≡◌, ℕ, ◌+◌, ◌-◌, ◌<◌, ◌≤◌, ◌^◌, List, [], ◌∷◌, ◌++◌, length, set, vec_len, Some, None, refl, sym, ap, ◌∙◌, subst, arith}
+use Rattle.std.proofs.Common.{◌≡◌, ◌≢◌, ℕ, ◌+◌, ◌-◌, ◌<◌, ◌≤◌, ◌^◌, Bool, true, false, List, [], ◌∷◌, ◌++◌, length, set, vec_len, Option, Some, None, refl, sym, ap, ◌∙◌, subst, inl, inr, arith}
 use Rattle.std.specs.Prelude.{vec_capacity}
 use Rattle.std.specs.Arc.{arc_value}
 use Rattle.std.specs.Prelude.{cond, nat_le}
@@ -7,6 +7,7 @@ use Rattle.index_def.specs.declared.definition.IndexDef.{IndexDef}
 use Rattle.index_def.specs.LiveIndexes.{Live, is_live, state_at_creation}
 use Rattle.index_ddl.specs.Catalogs.{Indexes, creation_fault}
 use Rattle.index_ddl.specs.declared.fault.DdlFault.TheVariants.{Exists, TooMany}
+use Rattle.index_snapshot.specs.declared.snapshot.Snapshot.{Snapshot}
 use Rattle.scan_history.specs.declared.why.Why.TheVariants.{Plain}
 use Rattle.scan_history.specs.Events.{Event, define, refuse}
 use Rattle.scan_history.specs.Fold.{Client, state_after}
@@ -17,11 +18,12 @@ use Rattle.gsi_hub.specs.Past.{Past, state_of, part_in, Acted}
 use Rattle.gsi_hub.specs.inner.Kept.{IsHub}
 use Rattle.gsi_hub.specs.inner.Newest.{newest_of}
 use Rattle.gsi_hub.specs.inner.Parts.{parts_of}
-use Rattle.gsi_hub.specs.inner.Definitions.{IsCreationOf, creation_of, IsWorkOf}
+use Rattle.gsi_hub.specs.inner.Definitions.{IsCreationOf, creation_of, IsWorkOf, answer_to}
+use Rattle.gsi_hub.specs.Snapshots.{IsNewest}
 use Rattle.gsi_hub.specs.inner.Steps.{IsFirstEvent}
 use Rattle.gsi_hub.proofs.Calls.{hub_created}
 use Rattle.gsi_hub.proofs.Snapshots.{newest_push}
-use Rattle.gsi_hub.proofs.Statements.{no_fault, creation_done, full, work_step, answer_is as answers, one_longer}
+use Rattle.gsi_hub.proofs.Statements.{no_fault, creation_done, creation_refused, full, work_step, answer_is as answers, one_longer}
 use Rattle.gsi_hub.proofs.Steps.{acted, first_comes, room, part_there_in}
 use Rattle.gsi_hub.proofs.hub.Hub.create_prepared.Goals as goal
 

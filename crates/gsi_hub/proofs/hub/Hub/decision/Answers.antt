@@ -4,7 +4,9 @@ use Rattle.seq_vector.specs.Vectors.{IsCovered}
 use Rattle.scan_coord.specs.declared.decision.Decision.TheVariants.{Covered}
 use Rattle.scan_coord.specs.Decisions.{decision_of}
 use Rattle.scan_history.specs.Fold.{Client, Opened}
-use Rattle.gsi_hub.specs.Past.{state_of, part_in}
+use Rattle.scan_history.specs.Legal.{IsLegal}
+use Rattle.scan_history.specs.Sound.{IsSound}
+use Rattle.gsi_hub.specs.Past.{Past, state_of, part_in}
 use Rattle.gsi_hub.specs.Stages.{OnRequest}
 use Rattle.gsi_hub.proofs.Opens.{request_map}
 use Rattle.gsi_hub.proofs.Requests.{demand_size}

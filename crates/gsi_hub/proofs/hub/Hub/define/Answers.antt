@@ -1,12 +1,14 @@
-use Rattle.std.proofs.Common.{◌≡◌, ◌<◌, List}
+use Rattle.std.proofs.Common.{◌≡◌, ◌≢◌, ℕ, ◌+◌, ◌-◌, ◌<◌, ◌≤◌, ◌^◌, Bool, true, false, List, [], ◌∷◌, ◌++◌, length, set, vec_len, Option, Some, None, refl, sym, ap, ◌∙◌, subst, inl, inr, arith}
+use Rattle.std.specs.Prelude.{vec_capacity}
+use Rattle.std.specs.Arc.{arc_value}
 use Rattle.scan_history.specs.declared.script.Script.{Script}
 use Rattle.scan_history.specs.Events.{Event}
 use Rattle.scan_history.specs.First.{command_at}
 use Rattle.scan_history.specs.Fold.{nothing, state_after}
 use Rattle.scan_history.specs.Readings.{IsRead, reads}
-use Rattle.gsi_hub.specs.Commands.{OnText}
-use Rattle.gsi_hub.specs.Outcomes.{IsDefined}
-use Rattle.gsi_hub.specs.Past.{state_of, part_in, next_command, IsAsBefore, Acted}
+use Rattle.gsi_hub.specs.Commands.{OnText, IsRequest}
+use Rattle.gsi_hub.specs.Outcomes.{IsDefined, IsStarted}
+use Rattle.gsi_hub.specs.Past.{Past, state_of, part_in, next_command, IsAsBefore, Acted}
 use Rattle.gsi_hub.proofs.Firsts.{first_text}
 use Rattle.gsi_hub.proofs.Steps.{carried, acted_from, as_before_twice, ok_map, err_map}
 use Rattle.gsi_hub.proofs.hub.Hub.define.Goals as goal

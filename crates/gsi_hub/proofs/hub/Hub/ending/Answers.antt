@@ -1,4 +1,4 @@
-use Rattle.std.proofs.Common.{sym, ap, ◌∙◌}
+use Rattle.std.proofs.Common.{◌≡◌, sym, ap, ◌∙◌}
 use Rattle.scan_history.specs.Fold.{Client}
 use Rattle.gsi_hub.specs.inner.Parts.{opened_of}
 use Rattle.gsi_hub.proofs.Requests.{work_size}

@@ -1,7 +1,8 @@
-use Rattle.std.proofs.Common.{◌≡◌, ℕ, suc, ◌+◌, List, [], ◌∷◌, ◌++◌, take, Some, slice_get, get_or, sym, ap, ◌∙◌, subst, arith}
+use Rattle.std.proofs.Common.{◌≡◌, ℕ, suc, ◌+◌, List, [], ◌∷◌, ◌++◌, take, Some, slice_get, get_or, sym, ap, ◌∙◌, subst, refl, arith}
 use Rattle.std.proofs.lemmas.Option.{slice_get-get_or}
+use Rattle.gsi_hub.specs.declared.ending.Ending.{Ending}
 use Rattle.gsi_hub.specs.Past.{state_of}
-use Rattle.gsi_hub.specs.inner.Endings.{IsEnding}
+use Rattle.gsi_hub.specs.inner.Endings.{IsEnding, merged}
 use Rattle.gsi_hub.proofs.Endings.{ending_next}
 use Rattle.gsi_hub.proofs.Keeping.{take_next}
 use Rattle.gsi_hub.proofs.hub.Hub.ending_of.Goals as goal

@@ -1,4 +1,4 @@
-use Rattle.std.proofs.Common.{Some, sym, ap, ◌∙◌, subst}
+use Rattle.std.proofs.Common.{◌≡◌, Some, sym, ap, ◌∙◌, subst}
 use Rattle.std.specs.Arc.{arc_value}
 use Rattle.index_def.specs.LiveIndexes.{numbered}
 use Rattle.index_snapshot.specs.declared.snapshot.Snapshot.{Snapshot}

@@ -1,4 +1,4 @@
-use Rattle.std.proofs.Common.{subst}
+use Rattle.std.proofs.Common.{◌≡◌, subst}
 use Rattle.scan_history.specs.Legal.{IsLegal}
 use Rattle.gsi_hub.specs.Past.{Past}
 use Rattle.gsi_hub.proofs.hub.Hub.into_events.Goals as goal

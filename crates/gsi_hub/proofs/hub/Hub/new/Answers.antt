@@ -1,4 +1,4 @@
-use Rattle.std.proofs.Common.{List, [], replicate, sym, ap, ◌∙◌, subst}
+use Rattle.std.proofs.Common.{◌≡◌, List, [], replicate, sym, ap, ◌∙◌, subst}
 use Rattle.std.specs.Arc.{arc_value}
 use Rattle.scan_history.specs.declared.script.Script.{Script}
 use Rattle.scan_history.specs.Events.{Event}

@@ -1,4 +1,4 @@
-use Rattle.std.proofs.Common.{option_map, sym, subst}
+use Rattle.std.proofs.Common.{◌≡◌, option_map, sym, subst}
 use Rattle.std.specs.Option.{option_copied}
 use Rattle.std.specs.Arc.{arc_value}
 use Rattle.index_def.specs.LiveIndexes.{numbered}

@@ -3,7 +3,7 @@ use Rattle.std.specs.Arc.{arc_value}
 use Rattle.scan_history.specs.Events.{Event, not_yet}
 use Rattle.scan_history.specs.First.{command_at}
 use Rattle.scan_history.specs.Legal.{MayNotYet, waits}
-use Rattle.gsi_hub.specs.Past.{state_of, part_in}
+use Rattle.gsi_hub.specs.Past.{state_of, part_in, MayCome}
 use Rattle.gsi_hub.proofs.Steps.{acted}
 use Rattle.gsi_hub.proofs.hub.Hub.not_yet.Goals as goal
 

@@ -7,6 +7,7 @@ use Rattle.scan_coord.specs.declared.decision.Decision.{Decision}
 use Rattle.scan_coord.specs.declared.decision.Decision.TheVariants as decision
 use Rattle.scan_coord.specs.Decisions.{decision_of}
 use Rattle.scan_history.specs.Events.{answer}
+use Rattle.scan_history.specs.Legal.{IfLive}
 use Rattle.gsi_hub.specs.Outcomes.{IsPick}
 use Rattle.gsi_hub.specs.Past.{state_of, part_in, Acted}
 use Rattle.gsi_hub.specs.Snapshots.{IsHeld, snapshot_held}

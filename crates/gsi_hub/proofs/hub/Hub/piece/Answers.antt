@@ -1,6 +1,7 @@
-use Rattle.std.proofs.Common.{◌≡◌, ℕ, ◌+◌, ◌-◌, List, ap, ◌∙◌, subst, arith}
+use Rattle.std.proofs.Common.{◌≡◌, ℕ, ◌+◌, ◌-◌, List, ap, sym, ◌∙◌, subst, arith}
 use Rattle.vb_store.specs.declared.mutation.Mutation.{Mutation}
 use Rattle.vb_store.specs.Mutations.{slice_of}
+use Rattle.dcp_stream.specs.declared.piece.Piece.{Piece}
 use Rattle.gsi_hub.specs.Past.{Past, state_of}
 use Rattle.gsi_hub.proofs.hub.Hub.piece.Goals as goal
 

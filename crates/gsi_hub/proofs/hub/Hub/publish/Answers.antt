@@ -1,4 +1,4 @@
-use Rattle.std.proofs.Common.{◌≡◌, ◌≢◌, subst}
+use Rattle.std.proofs.Common.{◌≡◌, ◌≢◌, ℕ, List, length, ap, sym, subst}
 use Rattle.std.specs.Arc.{arc_value}
 use Rattle.seq_vector.specs.Vectors.{IsCovered}
 use Rattle.index_snapshot.specs.declared.snapshot.Snapshot.{Snapshot}

@@ -1,4 +1,4 @@
-use Rattle.std.proofs.Common.{◌≡◌, ℕ, ◌+◌, ◌-◌, ◌<◌, ◌^◌, List, [], ◌∷◌, ◌++◌, vec_len, refl, sym, ap, ◌∙◌, subst, arith}
+use Rattle.std.proofs.Common.{◌≡◌, ◌≢◌, ℕ, ◌+◌, ◌-◌, ◌<◌, ◌≤◌, ◌^◌, Bool, true, false, List, [], ◌∷◌, ◌++◌, length, set, vec_len, Option, Some, None, refl, sym, ap, ◌∙◌, subst, inl, inr, arith}
 use Rattle.std.specs.Prelude.{vec_capacity}
 use Rattle.std.specs.Arc.{arc_value}
 use Rattle.std.specs.Prelude.{is_some, filter, ⊤}
@@ -6,7 +6,7 @@ use Rattle.std.specs.List.{AllByRecursion}
 use Rattle.n1ql_value.specs.declared.state.State.TheVariants.{Online}
 use Rattle.index_def.specs.LiveIndexes.{Live, numbered, all_in_state}
 use Rattle.scan_history.specs.Events.{Event, online}
-use Rattle.scan_history.specs.Fold.{Client, state_after}
+use Rattle.scan_history.specs.Fold.{Client, Opened, state_after}
 use Rattle.scan_history.specs.Legal.{MayFollow, MayGoOnline, live_among}
 use Rattle.scan_history.specs.Readings.{Read, AreRead}
 use Rattle.gsi_hub.specs.Past.{Past, state_of, part_in, Acted}

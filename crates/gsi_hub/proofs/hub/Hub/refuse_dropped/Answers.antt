@@ -1,8 +1,8 @@
-use Rattle.std.proofs.Common.{◌≡◌, ℕ, inr, refl, ap}
+use Rattle.std.proofs.Common.{◌≡◌, ℕ, inr, refl, sym, ap, subst}
 use Rattle.scan_history.specs.declared.why.Why.TheVariants.{Plain}
 use Rattle.scan_history.specs.Events.{Event, refuse}
 use Rattle.scan_history.specs.Refusals as code
-use Rattle.gsi_hub.specs.Past.{part_in}
+use Rattle.gsi_hub.specs.Past.{part_in, MayCome}
 use Rattle.gsi_hub.proofs.Steps.{acted}
 use Rattle.gsi_hub.proofs.hub.Hub.refuse_dropped.Goals as goal
 

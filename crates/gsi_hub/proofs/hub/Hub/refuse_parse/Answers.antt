@@ -1,3 +1,4 @@
+use Rattle.std.proofs.Common.{refl}
 use Rattle.scan_history.specs.Readings.{faults}
 use Rattle.gsi_hub.specs.Past.{state_of, part_in, next_command}
 use Rattle.gsi_hub.proofs.Firsts.{first_text}

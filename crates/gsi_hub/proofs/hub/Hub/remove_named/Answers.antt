@@ -1,9 +1,9 @@
-use Rattle.std.proofs.Common.{◌≡◌, ℕ, ◌+◌, ◌-◌, ◌<◌, ◌^◌, List, [], ◌∷◌, ◌++◌, length, vec_len, Some, refl, sym, ap, ◌∙◌, subst, arith}
+use Rattle.std.proofs.Common.{◌≡◌, ◌≢◌, ℕ, ◌+◌, ◌-◌, ◌<◌, ◌≤◌, ◌^◌, Bool, true, false, List, [], ◌∷◌, ◌++◌, length, set, vec_len, Option, Some, None, refl, sym, ap, ◌∙◌, subst, inl, inr, arith}
 use Rattle.std.specs.Prelude.{vec_capacity}
 use Rattle.std.specs.Arc.{arc_value}
 use Rattle.std.proofs.lemmas.List.{length-map}
 use Rattle.std.specs.Prelude.{option_map}
-use Rattle.index_def.specs.LiveIndexes.{Live, named}
+use Rattle.index_def.specs.LiveIndexes.{Live, named, without}
 use Rattle.scan_history.specs.declared.why.Why.TheVariants.{Plain}
 use Rattle.scan_history.specs.Events.{Event, removed, refuse}
 use Rattle.scan_history.specs.First.{first_of_drop}
@@ -17,7 +17,7 @@ use Rattle.gsi_hub.specs.inner.Newest.{newest_of}
 use Rattle.gsi_hub.specs.inner.Parts.{parts_of}
 use Rattle.gsi_hub.specs.inner.Steps.{IsFirstEvent}
 use Rattle.gsi_hub.proofs.Calls.{hub_removed}
-use Rattle.gsi_hub.proofs.Statements.{drop_done, named_made}
+use Rattle.gsi_hub.proofs.Statements.{drop_done, drop_refused, named_made}
 use Rattle.gsi_hub.proofs.Steps.{acted, first_comes, room, part_there_in}
 use Rattle.gsi_hub.proofs.hub.Hub.remove_named.Goals as goal
 

@@ -1,12 +1,16 @@
-use Rattle.std.proofs.Common.{◌≡◌, ◌<◌, List, sym, subst}
+use Rattle.std.proofs.Common.{◌≡◌, ◌≢◌, ℕ, ◌+◌, ◌-◌, ◌<◌, ◌≤◌, ◌^◌, Bool, true, false, List, [], ◌∷◌, ◌++◌, length, set, vec_len, Option, Some, None, refl, sym, ap, ◌∙◌, subst, inl, inr, arith}
+use Rattle.std.specs.Prelude.{vec_capacity}
+use Rattle.std.specs.Arc.{arc_value}
 use Rattle.scan_history.specs.declared.script.Script.{Script}
 use Rattle.scan_history.specs.Events.{Event}
 use Rattle.scan_history.specs.First.{command_at}
 use Rattle.scan_history.specs.Fold.{nothing, state_after}
-use Rattle.gsi_hub.specs.Commands.{IsRequest}
-use Rattle.gsi_hub.specs.Outcomes.{IsStarted}
-use Rattle.gsi_hub.specs.Past.{IsAsBefore, Acted}
-use Rattle.gsi_hub.proofs.Steps.{carried, acted_from, ok_map, err_map}
+use Rattle.scan_history.specs.Readings.{IsRead, reads}
+use Rattle.gsi_hub.specs.Commands.{OnText, IsRequest}
+use Rattle.gsi_hub.specs.Outcomes.{IsDefined, IsStarted}
+use Rattle.gsi_hub.specs.Past.{Past, state_of, part_in, next_command, IsAsBefore, Acted}
+use Rattle.gsi_hub.proofs.Firsts.{first_text}
+use Rattle.gsi_hub.proofs.Steps.{carried, acted_from, as_before_twice, ok_map, err_map}
 use Rattle.gsi_hub.proofs.hub.Hub.start.Goals as goal
 
 pub start_as-requires-clause-client : goal.start_as-requires-clause-client

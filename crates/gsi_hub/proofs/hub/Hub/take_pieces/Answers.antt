@@ -1,7 +1,9 @@
-use Rattle.std.proofs.Common.{sym, subst}
+use Rattle.std.proofs.Common.{List, sym, subst}
 use Rattle.std.specs.List.{AllByRecursion}
+use Rattle.dcp_stream.specs.declared.piece.Piece.{Piece}
 use Rattle.dcp_stream.specs.Pieces.{PieceStands}
-use Rattle.gsi_hub.specs.Past.{state_of}
+use Rattle.scan_history.specs.Legal.{IsLegal}
+use Rattle.gsi_hub.specs.Past.{Past, state_of}
 use Rattle.gsi_hub.proofs.Pieces.{pieces_stand}
 use Rattle.gsi_hub.proofs.hub.Hub.take_pieces.Goals as goal
 
