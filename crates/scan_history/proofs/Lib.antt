@@ -1,3 +1,4 @@
+mod StatementForm
 mod StatementTokens
 mod StatementReading
 mod StatementDefinition
@@ -13,6 +14,7 @@ mod Later
 mod Growth
 mod Requests
 mod Commands
+mod Served
 mod ToldStatements
 mod Told
 mod Defined

@@ -118,7 +118,7 @@ within script c k asked sound at =
     each_at (IsWithinBounds script.vbuckets) (commands_of script c) k asked (each_in (IsWithinBounds script.vbuckets) script.commands c sound.commands) at
 
 -- the demand of a request has an entry for each vBucket
-base_size : (demand : Demand) (since seen wrote : List ℕ) (n : ℕ) → length since ≡ n → length wrote ≡ n → IsSized n demand → length (base_of demand (record { seen = seen; wrote = wrote }) since) ≡ n
+pub base_size : (demand : Demand) (since seen wrote : List ℕ) (n : ℕ) → length since ≡ n → length wrote ≡ n → IsSized n demand → length (base_of demand (record { seen = seen; wrote = wrote }) since) ≡ n
 base_size NotBounded since seen wrote n s w sized = length-replicate (length since) 0 ∙ s
 base_size (AtPlus at) since seen wrote n s w sized = sized
 base_size Mine since seen wrote n s w sized = w

@@ -18,7 +18,7 @@ use Rattle.n1ql_ast.specs.Names.{level_in, outermost}
 use Rattle.n1ql_ast.specs.Grammar.{IsExpr, expr as is_expr, or_done, and, and_done, not_rel, rel, test_none, add, add_done, mul, mul_done, neg_post, post, post_done, prim_name}
 use Rattle.n1ql_ast.specs.Statements.{IsStatement, IsKey, on_document, keys, key_plain, keys_done, ddl_create, where_none, using_none, with_none}
 use Rattle.n1ql_parse.specs.Input.{classes_of}
-use Rattle.scan_history.specs.Ddl.{index_name}
+use Rattle.scan_history.proofs.StatementForm.{index_name}
 use Rattle.scan_history.proofs.StatementTokens.{tokens_on}
 
 -- the creation of the index on a field

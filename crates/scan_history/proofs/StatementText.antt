@@ -1,8 +1,7 @@
--- What a text of the form of today reads as.
+-- What the statement on a field reads as.
 use Rattle.std.proofs.Common.{◌≡◌, ℕ, ◌≤◌, Bool, true, false, List, [], ◌∷◌, Option, Some, None, refl, sym, ap, ◌∙◌, subst, arith}
 use Rattle.std.specs.Prelude.{◌&&◌, ◌||◌, ◌==◌, not, nat_le, slice_index, is_none, if◌then◌else◌}
 use Rattle.std.specs.List.{list_all, range_with_len}
-use Rattle.std.specs.Option.{option_map}
 use Rattle.std.specs.Str.{bytes_eq}
 use Rattle.std.specs.Char.{is_ascii_digit}
 use Rattle.std.proofs.lemmas.Bool.{and_parts, leb-true}
@@ -14,12 +13,9 @@ use Rattle.n1ql_lex.specs.Words.{reserved_word_of}
 use Rattle.n1ql_ast.specs.declared.ddl.Ddl.TheVariants as ddl
 use Rattle.n1ql_ast.specs.Statements.{IsStatement}
 use Rattle.n1ql_parse.specs.Readings.{IsReadingDdl}
-use Rattle.index_def.specs.declared.definition.IndexDef.{IndexDef}
-use Rattle.scan_history.specs.Ddl.{statement_on, defined_field, definition_on, definition_of_text}
-use Rattle.scan_history.specs.Definitions.{Defines}
+use Rattle.scan_history.proofs.StatementForm.{statement_on, defined_field}
 use Rattle.scan_history.proofs.StatementTokens.{tokens_on, tokens_of_statement, each_of}
 use Rattle.scan_history.proofs.StatementReading.{create_on, classes, statement}
-use Rattle.scan_history.proofs.StatementDefinition.{no_reason}
 
 -- a letter begins a word, and is no reserved word
 abbrev is_name : ℕ → Bool
@@ -74,13 +70,3 @@ reads_as text letter is =
       few = omega arith;
       whole = subst (λ ks. IsStatement ks (ddl.Create (create_on letter))) (sym (classes letter)) (statement letter);
     })
-
--- where something is made of what there may be, that is there
-made : {A B : Type 0} (f : A → B) (o : Option A) (b : B) → option_map f o ≡ Some b → (a : A) × (o ≡ Some a) × (f a ≡ b)
-made f None b is = absurd (cc)
-made f (Some a) b is = (a, refl, cc)
-
-pub defines : (text : List ℕ) (def : IndexDef) → definition_of_text text ≡ Some def → Defines text def
-defines text def is =
-    let m = made definition_on (defined_field text) def is in
-    record { create = create_on m.0; read = reads_as text m.0 m.1; good = no_reason m.0; asked = m.2 }

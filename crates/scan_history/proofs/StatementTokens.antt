@@ -11,7 +11,7 @@ use Rattle.n1ql_lex.specs.declared.token_kind.TokenKind.TheVariants.{Word, Name,
 use Rattle.n1ql_lex.specs.Bytes.{opening_of, is_word_byte, is_blank}
 use Rattle.n1ql_lex.specs.Words.{reserved_word_of, kind_of_word, word_of}
 use Rattle.n1ql_lex.specs.Signs.{sign_of}
-use Rattle.scan_history.specs.Ddl.{statement_on}
+use Rattle.scan_history.proofs.StatementForm.{statement_on}
 use Rattle.n1ql_lex.specs.Tokens.{IsToken, IsTokenOf, IsCut, IsTokens, none, blank, token}
 
 -- what holds of each of n numbers from a on

@@ -4,7 +4,7 @@ use Rattle.std.specs.Option.{option_map_or}
 use Rattle.seq_vector.specs.Vectors.{fnv1a, IsCovered}
 use Rattle.n1ql_ast.specs.declared.ddl.Ddl.TheVariants as ddl
 use Rattle.scan_history.specs.declared.why.Why.TheVariants.{Because}
-use Rattle.scan_history.specs.Ddl.{definition_on}
+use Rattle.scan_history.proofs.StatementForm.{definition_on}
 use Rattle.scan_history.specs.Events.{mutate, define, publish, online, start, not_yet, answer, refuse}
 use Rattle.scan_history.specs.Fold.{nothing, State, first_state, state_from}
 use Rattle.scan_history.specs.First.{commands_of, first_of_text}

@@ -9,11 +9,10 @@ pub mod NextEvent
 pub mod Marks
 pub mod Consistent
 pub mod Requests
+pub mod Served
 pub mod Told
 pub mod RowTexts
 pub mod Answers
-pub mod Ddl
 pub mod Definitions
 pub mod Sound
-pub mod Supported
 pub mod inner

@@ -3,14 +3,20 @@ use Rattle.std.specs.Prelude.{ℕ, List, [], ◌∷◌, codes, Some, pos, true, 
 use Rattle.n1ql_value.specs.declared.value.Value.{Value}
 use Rattle.n1ql_value.specs.declared.value.Value.TheVariants.{Object}
 use Rattle.n1ql_value.specs.declared.datum.Datum.TheVariants.{Int}
+use Rattle.n1ql_ast.specs.declared.expr.Expr.TheVariants.{Doc, Field}
+use Rattle.n1ql_ast.specs.declared.key.Key.TheVariants.{Plain}
+use Rattle.index_def.specs.declared.definition.IndexDef.{IndexDef}
 use Rattle.scan_coord.specs.declared.demand.Demand.TheVariants.{NotBounded, Mine}
 use Rattle.scan_history.specs.declared.command.Command.{Command}
 use Rattle.scan_history.specs.declared.command.Command.TheVariants.{Upsert, Ddl, Scan}
 use Rattle.scan_history.specs.declared.script.Script.{Script}
 use Rattle.scan_history.specs.declared.why.Why.TheVariants.{Plain}
-use Rattle.scan_history.specs.Ddl.{definition_on}
 use Rattle.scan_history.specs.Events.{Event, mutate, define, online, publish, removed, start, answer, not_yet, refuse}
 use Rattle.scan_history.specs.Refusals as code
+
+-- the index ix on the field x
+abbrev pub told_definition : IndexDef
+told_definition = record { name = codes "ix"; keys = Plain (Field Doc (codes "x")) ∷ []; filter = []; primary = false }
 
 -- {"x":n}
 abbrev pub told_doc : ℕ → Value
@@ -38,7 +44,7 @@ told_script = record {
 abbrev pub told_history : List Event
 told_history =
     mutate 0 0 (record { vb = 0; seqno = 1; id = codes "a"; body = Some (told_doc 1) })
-    ∷ define 0 1 0 false (definition_on 120)
+    ∷ define 0 1 0 false told_definition
     ∷ publish 0 (1 ∷ [])
     ∷ mutate 1 0 (record { vb = 0; seqno = 2; id = codes "b"; body = Some (told_doc 2) })
     ∷ online 0 1 (0 ∷ [])

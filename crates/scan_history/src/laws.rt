@@ -15,7 +15,6 @@ ghost use Rattle.scan_history.specs.declared.command.Command.TheVariants.{Scan};
 ghost use Rattle.scan_history.specs.declared.script.Script.{Script};
 ghost use Rattle.scan_history.specs.Answers.{answers_of};
 ghost use Rattle.scan_history.specs.Consistent.{IsConsistent};
-ghost use Rattle.scan_history.specs.Ddl.{definition_of_text};
 ghost use Rattle.scan_history.specs.Definitions.{Defines};
 ghost use Rattle.scan_history.specs.Events.{Event, not_yet, client_of, party_of};
 ghost use Rattle.scan_history.specs.First.{commands_of, command_at, first_action};
@@ -27,6 +26,7 @@ ghost use Rattle.scan_history.specs.inner.Known.{Known};
 ghost use Rattle.scan_history.specs.NextEvent.{next_event};
 ghost use Rattle.scan_history.specs.Readings.{Read, IsRead, AreRead};
 ghost use Rattle.scan_history.specs.Requests.{IsAsked, IsWithinCommands};
+ghost use Rattle.scan_history.specs.Served.{AreServed};
 ghost use Rattle.scan_history.specs.Sound.{IsSound, IsWithinBounds};
 
 use n1ql_parse::laws as parse;
@@ -190,6 +190,16 @@ pub fn a_request_that_waits_is_answered()
     below();
 }
 
+/// Law of requests that are served: an answer is at the vector of the newest publication of its index, which covers what the request asks for and all
+/// that its client has seen; a request isn't answered yet only where the newest publication doesn't cover them.
+pub fn requests_are_served()
+    ensures { (script : Script) (events : List Event) → IsSound script → IsLegal script events → AreServed script events }
+{
+    texts_are_read_in_one_way();
+    below();
+    vectors::join_is_least();
+}
+
 /// Law of answers: those of a legal history stay as they are when it grows.
 pub fn answers_stay()
     ensures { (script : Script) (events more : List Event)
@@ -207,9 +217,3 @@ pub fn the_told_history_is_legal_and_finished()
 {
     texts_are_read_in_one_way();
 }
-
-/// Law of definitions: the text of the one form that is built so far defines, by the grammar of statements and the meaning of definitions,
-/// the index that it is said to define.
-pub fn the_text_defines()
-    ensures { (text : List ℕ) (def : IndexDef) → definition_of_text text ≡ Some def → Defines text def }
-{}

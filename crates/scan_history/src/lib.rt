@@ -3,7 +3,6 @@
 
 mod ask;
 mod command;
-mod ddl;
 mod done;
 mod event;
 mod kind;
@@ -16,7 +15,6 @@ mod why;
 
 pub use ask::Ask;
 pub use command::Command;
-pub use ddl::defined_field;
 pub use done::{AnswerList, Answered, Done, End, EndList};
 pub use event::{Event, Events, Happened, Numbers};
 pub use kind::Kind;

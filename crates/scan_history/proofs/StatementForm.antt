@@ -1,4 +1,4 @@
--- The one statement that is read so far: an index called ix on one field of the keyspace ks, a letter from a to z.
+-- The statement that begins the told history: an index called ix on one field of the keyspace ks, a letter from a to z.
 use Rattle.std.specs.Prelude.{ℕ, ◌&&◌, false, List, [], ◌∷◌, codes, Option, Some, None, slice_index, slice_set, nat_le, if◌then◌else◌}
 use Rattle.std.specs.Option.{option_map}
 use Rattle.std.specs.Str.{bytes_eq}
@@ -23,7 +23,3 @@ index_name = codes "ix"
 -- its definition: the one key is the field
 abbrev pub definition_on : ℕ → IndexDef
 definition_on letter = record { name = index_name; keys = Plain (Field Doc (letter ∷ [])) ∷ []; filter = []; primary = false }
-
--- the definition that a text is the statement of
-abbrev pub definition_of_text : List ℕ → Option IndexDef
-definition_of_text text = option_map definition_on (defined_field text)
