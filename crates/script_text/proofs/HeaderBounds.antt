@@ -18,7 +18,6 @@ use Rattle.script_text.specs.declared.reader.format.sizes.Sizes.{Sizes}
 use Rattle.n1ql_value.specs.Kinds.{text_in}
 use Rattle.script_text.specs.Members.{Members, value_at, text_at, number_at}
 use Rattle.script_text.specs.Rows.{in_range, is_text_within, has_shape, has_needed, header_row, is_within}
-use Rattle.script_text.specs.Supported.{is_header_supported}
 use Rattle.script_text.specs.Items.{no_sizes, is_other_version, header_with, header_checked, header_of_line, members_of, and_then}
 use Rattle.script_text.proofs.Bounds.{both, Admits, count_bounds, needed_bounds, header_admits}
 
@@ -62,47 +61,35 @@ pub record HeaderFits (header : Header) : Type 0 where
   pub workers : header.workers ≤ max_workers
   pub batch : IsWithin 1 max_batch header.batch
   pub keyspace : IsWithin 1 max_keyspace_bytes (length header.keyspace)
-  pub one_client : header.sizes.clients ≡ 1
-  pub built_keyspace : header.keyspace ≡ codes "ks"
 
-header_built : (members : Members) → is_header_supported members ≡ true → (text_at (codes "keyspace") (codes "ks") members ≡ codes "ks") × (number_at (codes "clients") (pos 0) members ≡ pos 1)
-unfolding is_header_supported
-header_built members e =
-    let p = both _ _ e in
-    ((bytes_eq-Decides (text_at (codes "keyspace") (codes "ks") members) (codes "ks")).0 p.0, (Decides-int_eq (number_at (codes "clients") (pos 0) members) (pos 1)).0 p.1)
-
-header_fits : (members : Members) → has_shape header_row members ≡ true → is_within no_sizes header_row members ≡ true → is_header_supported members ≡ true → HeaderFits (header_with members)
-header_fits members shape within built =
+header_fits : (members : Members) → has_shape header_row members ≡ true → is_within no_sizes header_row members ≡ true → HeaderFits (header_with members)
+header_fits members shape within =
     let a = both _ _ (shape-needed header_row members shape) in
     let vbuckets = both _ _ a.1 in
     let clients = both _ _ vbuckets.1 in
     let admits = header_admits members within in
-    let is = header_built members built in
     record {
       vbuckets = needed_bounds no_sizes 1 max_vbuckets 0 (value_at (codes "vbuckets") members) vbuckets.0 admits.vbuckets;
       clients = needed_bounds no_sizes 1 max_clients 0 (value_at (codes "clients") members) clients.0 admits.clients;
       workers = (count_bounds no_sizes 0 max_workers 2 (value_at (codes "workers") members) (lit≤ tt) (lit≤ tt) admits.workers).1;
       batch = count_bounds no_sizes 1 max_batch 64 (value_at (codes "batch") members) (lit≤ tt) (lit≤ tt) admits.batch;
       keyspace = text_bounds no_sizes 1 max_keyspace_bytes (codes "ks") (value_at (codes "keyspace") members) (lit≤ tt, lit≤ tt) admits.keyspace;
-      one_client = ap unsigned_abs is.1;
-      built_keyspace = is.0;
     }
 
 -- each test in turn passed
-header_tests : (version shape within built : Bool) (made header : Header)
-    → cond version (Err kinds.Version) (cond (not shape) (Err kinds.Shape) (cond (not within) (Err kinds.Range) (cond (not built) (Err kinds.Unbuilt) (Ok made)))) ≡ Ok header
-    → (shape ≡ true) × (within ≡ true) × (built ≡ true) × (made ≡ header)
-header_tests true shape within built made header e = cc
-header_tests false false within built made header e = cc
-header_tests false true false built made header e = cc
-header_tests false true true false made header e = cc
-header_tests false true true true made header e = (refl, refl, refl, cc)
+header_tests : (version shape within : Bool) (made header : Header)
+    → cond version (Err kinds.Version) (cond (not shape) (Err kinds.Shape) (cond (not within) (Err kinds.Range) (Ok made))) ≡ Ok header
+    → (shape ≡ true) × (within ≡ true) × (made ≡ header)
+header_tests true shape within made header e = cc
+header_tests false false within made header e = cc
+header_tests false true false made header e = cc
+header_tests false true true made header e = (refl, refl, cc)
 
 header_checked-fits : (members : Members) (header : Header) → header_checked members ≡ Ok header → HeaderFits header
 unfolding header_checked
 header_checked-fits members header e =
-    let p = header_tests (is_other_version members) (has_shape header_row members) (is_within no_sizes header_row members) (is_header_supported members) (header_with members) header e in
-    subst HeaderFits p.3 (header_fits members p.0 p.1 p.2)
+    let p = header_tests (is_other_version members) (has_shape header_row members) (is_within no_sizes header_row members) (header_with members) header e in
+    subst HeaderFits p.2 (header_fits members p.0 p.1)
 
 after_members : (r : Result Members Kind) (header : Header) → and_then header_checked r ≡ Ok header → HeaderFits header
 after_members (Ok members) header e = header_checked-fits members header e

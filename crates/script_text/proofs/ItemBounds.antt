@@ -6,7 +6,6 @@ use Rattle.std.specs.List.{AllByRecursion}
 use Rattle.std.specs.Option.{option_map_or, is_some, ok_or}
 use Rattle.std.proofs.lemmas.Bool.{leb-true}
 use Rattle.std.proofs.lemmas.List.{length-map}
-use Rattle.std.proofs.lemmas.Slice.Eq.{bytes_eq-Decides}
 use Rattle.n1ql_value.specs.declared.datum.Datum.{Datum}
 use Rattle.n1ql_value.specs.declared.value.Value.{Value}
 use Rattle.n1ql_value.specs.declared.value.Value.TheVariants.{Missing, Null, Bool as Flag, Int, Text, Array, Object}
@@ -14,9 +13,7 @@ use Rattle.n1ql_value.specs.Datum.{value_of}
 use Rattle.n1ql_value.specs.Limits.{max_id_bytes, max_spans, max_ranges}
 use Rattle.scan_history.specs.declared.kind.Kind.{Kind}
 use Rattle.scan_history.specs.declared.kind.Kind.TheVariants as kinds
-use Rattle.scan_history.specs.Ddl.{index_name}
 use Rattle.scan_history.specs.Sound.{IsRange, IsSpan, AreSpans, IsWithinBounds, IsTurn}
-use Rattle.scan_history.specs.Supported.{MayCome}
 use Rattle.script_text.specs.declared.reader.format.form.Form.{Form}
 use Rattle.script_text.specs.declared.reader.format.form.Form.TheVariants.{Upsert, Delete, Ddl, Scan, Query, Client, Project, Deliver, Lose, Publish, Rewind}
 use Rattle.script_text.specs.declared.reader.script.item.Item.{Item}
@@ -26,13 +23,12 @@ use Rattle.script_text.specs.declared.reader.format.sizes.Sizes.{Sizes}
 use Rattle.script_text.specs.Members.{Members, value_at, text_at, each_item}
 use Rattle.script_text.specs.SpanForms.{range_of_value, span_of_value, spans_of_value, is_span_within, are_spans_within}
 use Rattle.script_text.specs.Rows.{in_range, is_number_below, form_of, row_of, has_shape, has_needed, is_within}
-use Rattle.script_text.specs.Supported.{is_supported}
 use Rattle.script_text.specs.Commands.{command_of}
 use Rattle.script_text.specs.Turns.{turn_of}
 use Rattle.script_text.specs.Items.{item_of, item_checked, item_by_form, item_of_line, members_of, and_then}
 use Rattle.script_text.proofs.Bounds.{both, Admits, count_in}
 use Rattle.script_text.proofs.HeaderBounds.{needed_text_bounds, shape-needed}
-use Rattle.script_text.proofs.RequestBounds.{rewound-length, demand-sized, plain_ask}
+use Rattle.script_text.proofs.RequestBounds.{rewound-length, demand-sized}
 
 incl_bounds : (b d e : Bool) → cond b 0 (cond d 1 (cond e 2 3)) ≤ 3
 incl_bounds true d e = omega arith
@@ -129,17 +125,8 @@ abbrev pub ItemFits : Sizes → Item → Type 0
 ItemFits sizes (item.Command client command) = (client < sizes.clients) × IsWithinBounds sizes.vbuckets command
 ItemFits sizes (item.Turn turn) = IsTurn sizes.vbuckets sizes.clients turn
 
--- it is of the forms that are built
-abbrev pub ItemComes : Bool → Item → Type 0
-ItemComes defined (item.Command client command) = MayCome defined command
-ItemComes defined (item.Turn turn) = ⊥
-
 same_ok : (a b : Item) (r : Result Item Kind) → r ≡ Ok a → r ≡ Ok b → a ≡ b
 same_ok a b r e f = cc
-
-is_not : (b : Bool) → not b ≡ true → b ≡ false
-is_not true e = cc
-is_not false e = refl
 
 -- what a form says, by its row
 form_fits : (sizes : Sizes) (form : Form) (members : Members) (found : Item) → has_needed (row_of form) members ≡ true
@@ -183,56 +170,28 @@ form_fits sizes Lose members found stands within e = subst (ItemFits sizes) (sam
 form_fits sizes Publish members found stands within e = subst (ItemFits sizes) (same_ok _ found _ refl e) tt
 form_fits sizes Rewind members found stands within e = subst (ItemFits sizes) (same_ok _ found _ refl e) (rewound-length sizes.vbuckets members)
 
--- and by what is built
-form_comes : (n : ℕ) (defined : Bool) (form : Form) (members : Members) (found : Item) → is_supported defined form members ≡ true
-    → ok_or (item_of n form members) kinds.Unbuilt ≡ Ok found → ItemComes defined found
-unfolding is_supported item_of command_of turn_of
-form_comes n defined Upsert members found built e = subst (ItemComes defined) (same_ok _ found _ refl e) tt
-form_comes n defined Delete members found built e = subst (ItemComes defined) (same_ok _ found _ refl e) tt
-form_comes n defined Ddl members found built e =
-    let b = both _ _ built in subst (ItemComes defined) (same_ok _ found _ refl e) (is_not defined b.0, b.1)
-form_comes n defined Scan members found built e =
-    let plain = both _ _ built in
-    let b = both _ _ plain.0 in
-    subst (ItemComes defined) (same_ok _ found _ refl e)
-    (b.0, (bytes_eq-Decides (text_at (codes "index") [] members) index_name).0 b.1, plain_ask n members plain.1)
-form_comes n defined Query members found built e = cc
-form_comes n defined Client members found built e = cc
-form_comes n defined Project members found built e = cc
-form_comes n defined Deliver members found built e = cc
-form_comes n defined Lose members found built e = cc
-form_comes n defined Publish members found built e = cc
-form_comes n defined Rewind members found built e = cc
-
 -- each test in turn passed
-item_tests : (shape within built : Bool) (made : Result Item Kind) (item : Item)
-    → cond (not shape) (Err kinds.Shape) (cond (not within) (Err kinds.Range) (cond (not built) (Err kinds.Unbuilt) made)) ≡ Ok item
-    → (shape ≡ true) × (within ≡ true) × (built ≡ true) × (made ≡ Ok item)
-item_tests false within built made item e = cc
-item_tests true false built made item e = cc
-item_tests true true false made item e = cc
-item_tests true true true made item e = (refl, refl, refl, e)
+item_tests : (shape within : Bool) (made : Result Item Kind) (item : Item)
+    → cond (not shape) (Err kinds.Shape) (cond (not within) (Err kinds.Range) made) ≡ Ok item → (shape ≡ true) × (within ≡ true) × (made ≡ Ok item)
+item_tests false within made item e = cc
+item_tests true false made item e = cc
+item_tests true true made item e = (refl, refl, e)
 
--- both
-abbrev pub ItemIsGood : Sizes → Bool → Item → Type 0
-ItemIsGood sizes defined found = ItemFits sizes found × ItemComes defined found
-
-item_checked-good : (sizes : Sizes) (defined : Bool) (form : Form) (members : Members) (found : Item) → item_checked sizes defined form members ≡ Ok found → ItemIsGood sizes defined found
+item_checked-fits : (sizes : Sizes) (form : Form) (members : Members) (found : Item) → item_checked sizes form members ≡ Ok found → ItemFits sizes found
 unfolding item_checked
-item_checked-good sizes defined form members found e =
-    let p = item_tests (has_shape (row_of form) members) (is_within sizes (row_of form) members) (is_supported defined form members)
-    (ok_or (item_of sizes.vbuckets form members) kinds.Unbuilt) found e in
-    (form_fits sizes form members found (shape-needed (row_of form) members p.0) p.1 p.3, form_comes sizes.vbuckets defined form members found p.2 p.3)
+item_checked-fits sizes form members found e =
+    let p = item_tests (has_shape (row_of form) members) (is_within sizes (row_of form) members) (ok_or (item_of sizes.vbuckets form members) kinds.Unbuilt) found e in
+    form_fits sizes form members found (shape-needed (row_of form) members p.0) p.1 p.2
 
-after_form : (sizes : Sizes) (defined : Bool) (members : Members) (form : Option Form) (found : Item)
-    → and_then (λ f. item_checked sizes defined f members) (ok_or form kinds.Shape) ≡ Ok found → ItemIsGood sizes defined found
-after_form sizes defined members (Some form) found e = item_checked-good sizes defined form members found e
-after_form sizes defined members None found e = cc
+after_form : (sizes : Sizes) (members : Members) (form : Option Form) (found : Item)
+    → and_then (λ f. item_checked sizes f members) (ok_or form kinds.Shape) ≡ Ok found → ItemFits sizes found
+after_form sizes members (Some form) found e = item_checked-fits sizes form members found e
+after_form sizes members None found e = cc
 
-after_members : (sizes : Sizes) (defined : Bool) (r : Result Members Kind) (found : Item) → and_then (item_by_form sizes defined) r ≡ Ok found → ItemIsGood sizes defined found
-after_members sizes defined (Ok members) found e = after_form sizes defined members (form_of members) found e
-after_members sizes defined (Err kind) found e = cc
+after_members : (sizes : Sizes) (r : Result Members Kind) (found : Item) → and_then (item_by_form sizes) r ≡ Ok found → ItemFits sizes found
+after_members sizes (Ok members) found e = after_form sizes members (form_of members) found e
+after_members sizes (Err kind) found e = cc
 
-pub item_of_line-good : (sizes : Sizes) (defined : Bool) (line : List ℕ) (found : Item) → item_of_line sizes defined line ≡ Ok found → ItemIsGood sizes defined found
+pub item_of_line-fits : (sizes : Sizes) (line : List ℕ) (found : Item) → item_of_line sizes line ≡ Ok found → ItemFits sizes found
 unfolding item_of_line
-item_of_line-good sizes defined line found e = after_members sizes defined (members_of line) found e
+item_of_line-fits sizes line found e = after_members sizes (members_of line) found e

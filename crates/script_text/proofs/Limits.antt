@@ -39,7 +39,7 @@ of_result header (Ok items) = of_items header items
 of_result header (Err line) = tt
 
 of_header : (n : ℕ) (lines : List (ℕ × List ℕ)) (r : Result Header Kind) → IsNoInput (outcome_with_header n lines r)
-of_header n lines (Ok header) = of_result header (items_from header.sizes false lines)
+of_header n lines (Ok header) = of_result header (items_from header.sizes lines)
 of_header n lines (Err kind) = tt
 
 of_lines : (lines : List (ℕ × List ℕ)) → IsNoInput (outcome_of lines)
@@ -94,17 +94,17 @@ passed-result header n passed (Err line) count e good = absurd (cc)
 
 -- too many lines, none of them bad
 pub passed-lines : (header : Header) (lines : List (ℕ × List ℕ)) (n : ℕ) (passed : ScriptFault) → n ≡ length lines
-    → Some passed ≡ limit_passed header.sizes.vbuckets n → result_err (items_from header.sizes false lines) ≡ None
-    → ReadsAs (outcome_with_commands header (items_from header.sizes false lines)) (Err passed)
+    → Some passed ≡ limit_passed header.sizes.vbuckets n → result_err (items_from header.sizes lines) ≡ None
+    → ReadsAs (outcome_with_commands header (items_from header.sizes lines)) (Err passed)
 passed-lines header lines n passed counted e good =
-    passed-result header (length lines) passed (items_from header.sizes false lines) (items_from-length header.sizes false lines)
+    passed-result header (length lines) passed (items_from header.sizes lines) (items_from-length header.sizes lines)
     (ap (limit_passed header.sizes.vbuckets) (sym counted) ∙ sym e) good
 
 -- not too many lines
 pub not_passed-lines : (header : Header) (lines : List (ℕ × List ℕ)) (n : ℕ) (items : List Item) (result : Result Script ScriptFault) → n ≡ length lines
-    → None ≡ limit_passed header.sizes.vbuckets n → items_from header.sizes false lines ≡ Ok items → ReadsAs (outcome_within_scans header items) result
-    → ReadsAs (outcome_with_commands header (items_from header.sizes false lines)) result
+    → None ≡ limit_passed header.sizes.vbuckets n → items_from header.sizes lines ≡ Ok items → ReadsAs (outcome_within_scans header items) result
+    → ReadsAs (outcome_with_commands header (items_from header.sizes lines)) result
 not_passed-lines header lines n items result counted e says reads =
-    let many : length items ≡ n = items_from-length header.sizes false lines items says ∙ sym counted in
+    let many : length items ≡ n = items_from-length header.sizes lines items says ∙ sym counted in
     let scans : outcome_in_limits header items ≡ outcome_within_scans header items = not_passed-items header items (ap (limit_passed header.sizes.vbuckets) many ∙ sym e) in
     subst (λ (outcome : Outcome). ReadsAs outcome result) (sym (ap (outcome_with_commands header) says ∙ scans)) reads

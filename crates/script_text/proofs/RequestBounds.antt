@@ -1,4 +1,4 @@
--- What a request asks is within bounds; and where nothing is said, it asks for nothing and waits.
+-- What a request asks is within bounds.
 use Rattle.std.proofs.Common.{◌≡◌, ℕ, Bool, true, false, cond, List, length, Option, Some, None, unwrap_or, ap}
 use Rattle.std.specs.Prelude.{codes}
 use Rattle.std.specs.Option.{option_map_or}
@@ -8,12 +8,10 @@ use Rattle.n1ql_value.specs.declared.value.Value.{Value}
 use Rattle.n1ql_value.specs.Kinds.{object_in}
 use Rattle.scan_coord.specs.Demands.{IsSized}
 use Rattle.scan_coord.specs.declared.demand.Demand.TheVariants.{NotBounded, AtPlus, Mine, RequestPlus}
-use Rattle.scan_history.specs.Supported.{IsPlainAsk}
 use Rattle.script_text.specs.Members.{Members, no_members, value_at, text_at}
 use Rattle.script_text.specs.Requests.{mine_or_vector, demanded, ask_of}
 use Rattle.script_text.specs.Rows.{is_mine}
 use Rattle.script_text.specs.SparseVectors.{vector_of_value}
-use Rattle.script_text.specs.Supported.{is_unbounded}
 use Rattle.script_text.specs.Turns.{rewound_to}
 use Rattle.script_text.proofs.Bounds.{both}
 use Rattle.script_text.proofs.Vectors.{vector_of-length}
@@ -44,10 +42,3 @@ pub demand-sized : (n : ℕ) (members : Members) → IsSized n (ask_of n members
 demand-sized n members =
     let word = text_at (codes "consistency") (codes "not_bounded") members in
     word_cases (bytes_eq word (codes "at_plus")) (bytes_eq word (codes "request_plus")) n (value_at (codes "at") members)
-
-pub plain_ask : (n : ℕ) (members : Members) → is_unbounded members ≡ true → IsPlainAsk (ask_of n members)
-plain_ask n members e =
-    let p = both _ _ e in
-    let word : text_at (codes "consistency") (codes "not_bounded") members ≡ codes "not_bounded" =
-    (bytes_eq-Decides (text_at (codes "consistency") (codes "not_bounded") members) (codes "not_bounded")).0 p.0 in
-    record { demand = ap (λ w. demanded n w members) word; wait = p.1 }

@@ -19,7 +19,6 @@ use Rattle.script_text.specs.Members.{Members, text_at, number_at, count_at}
 use Rattle.script_text.specs.Commands.{command_of}
 use Rattle.script_text.specs.Turns.{turn_of}
 use Rattle.script_text.specs.Rows.{form_of, row_of, header_row, has_shape, is_within}
-use Rattle.script_text.specs.Supported.{is_header_supported, is_supported}
 
 -- what comes of what a reading gave
 abbrev pub and_then : {A B : Type 0} → (A → Result B Kind) → Result A Kind → Result B Kind
@@ -58,7 +57,6 @@ header_checked members =
     if is_other_version members then Err Version
     else if not (has_shape header_row members) then Err Shape
     else if not (is_within no_sizes header_row members) then Err OutOfRange
-    else if not (is_header_supported members) then Err Unbuilt
     else Ok (header_with members)
 
 unfoldable pub header_of_line : List ℕ → Result Header Kind
@@ -70,16 +68,15 @@ item_of n form members =
     option_or (option_map item.Turn (turn_of n form members))
     (option_map (item.Command (count_at (codes "c") 0 members)) (command_of n form members))
 
--- a line of a form, where `defined` tells whether a ddl line came before it
-unfoldable pub item_checked : Sizes → Bool → Form → Members → Result Item Kind
-item_checked sizes defined form members =
+-- a line of a form; queries aren't built yet
+unfoldable pub item_checked : Sizes → Form → Members → Result Item Kind
+item_checked sizes form members =
     if not (has_shape (row_of form) members) then Err Shape
     else if not (is_within sizes (row_of form) members) then Err OutOfRange
-    else if not (is_supported defined form members) then Err Unbuilt
     else ok_or (item_of sizes.vbuckets form members) Unbuilt
 
-abbrev pub item_by_form : Sizes → Bool → Members → Result Item Kind
-item_by_form sizes defined members = and_then (λ form. item_checked sizes defined form members) (ok_or (form_of members) Shape)
+abbrev pub item_by_form : Sizes → Members → Result Item Kind
+item_by_form sizes members = and_then (λ form. item_checked sizes form members) (ok_or (form_of members) Shape)
 
-unfoldable pub item_of_line : Sizes → Bool → List ℕ → Result Item Kind
-item_of_line sizes defined line = and_then (item_by_form sizes defined) (members_of line)
+unfoldable pub item_of_line : Sizes → List ℕ → Result Item Kind
+item_of_line sizes line = and_then (item_by_form sizes) (members_of line)

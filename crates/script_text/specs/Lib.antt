@@ -9,7 +9,6 @@ pub mod Rows
 pub mod Requests
 pub mod Commands
 pub mod Turns
-pub mod Supported
 pub mod Items
 pub mod Scripts
 pub mod Reading

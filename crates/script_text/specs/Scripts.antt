@@ -1,9 +1,8 @@
 -- The script that an input is.
-use Rattle.std.specs.Prelude.{ℕ, ◌*◌, ◌==◌, nat_lt, List, [], ◌∷◌, ◌++◌, length, map, filter_map, count_by, Bool, true, false, ◌||◌, Option, Some, None, Result, Ok, Err, if◌then◌else◌}
+use Rattle.std.specs.Prelude.{ℕ, ◌*◌, ◌==◌, nat_lt, List, [], ◌∷◌, ◌++◌, length, map, filter_map, count_by, Bool, true, false, Option, Some, None, Result, Ok, Err, if◌then◌else◌}
 use Rattle.std.specs.List.{range_with_len}
 use Rattle.n1ql_value.specs.Limits.{max_lines, max_product, max_scans}
 use Rattle.scan_history.specs.declared.command.Command.{Command}
-use Rattle.scan_history.specs.declared.command.Command.TheVariants.{Ddl}
 use Rattle.scan_history.specs.declared.kind.Kind.{Kind}
 use Rattle.scan_history.specs.declared.kind.Kind.TheVariants.{Shape}
 use Rattle.scan_history.specs.declared.script.Script.{Script}
@@ -24,30 +23,20 @@ pub data Outcome : Type 0 where
   bad : ℕ → Kind → Outcome
   too_large : What → ℕ → Outcome
 
-abbrev pub is_ddl : Command → Bool
-is_ddl (Ddl text) = true
-is_ddl _ = false
-
--- whether a line defines an index
-abbrev pub defines : Item → Bool
-defines (item.Command client command) = is_ddl command
-defines (item.Turn turn) = false
-
 -- these items, and then the others
 abbrev pub ahead : List Item → Result (List Item) (ℕ × Kind) → Result (List Item) (ℕ × Kind)
 ahead items (Ok others) = Ok (items ++ others)
 ahead items (Err line) = Err line
 
 -- line n, and then what comes after it
-abbrev pub and_then_lines : ℕ → Result Item Kind → (Item → Result (List Item) (ℕ × Kind)) → Result (List Item) (ℕ × Kind)
-and_then_lines n (Ok item) after = ahead (item ∷ []) (after item)
+abbrev pub and_then_lines : ℕ → Result Item Kind → Result (List Item) (ℕ × Kind) → Result (List Item) (ℕ × Kind)
+and_then_lines n (Ok item) after = ahead (item ∷ []) after
 and_then_lines n (Err kind) after = Err (n, kind)
 
--- what numbered lines say, or the first of them that is bad with its kind; `defined` tells whether a ddl line came before
-abbrev pub items_from : Sizes → Bool → List (ℕ × List ℕ) → Result (List Item) (ℕ × Kind)
-items_from sizes defined [] = Ok []
-items_from sizes defined (line ∷ lines) =
-    and_then_lines line.0 (item_of_line sizes defined line.1) (λ item. items_from sizes (defined || defines item) lines)
+-- what numbered lines say, or the first of them that is bad with its kind
+abbrev pub items_from : Sizes → List (ℕ × List ℕ) → Result (List Item) (ℕ × Kind)
+items_from sizes [] = Ok []
+items_from sizes (line ∷ lines) = and_then_lines line.0 (item_of_line sizes line.1) (items_from sizes lines)
 
 -- the command of a line, where it is one of this client
 abbrev pub command_by : ℕ → Item → Option Command
@@ -99,7 +88,7 @@ outcome_with_commands header (Ok items) = outcome_in_limits header items
 outcome_with_commands header (Err line) = bad line.0 line.1
 
 abbrev pub outcome_with_header : ℕ → List (ℕ × List ℕ) → Result Header Kind → Outcome
-outcome_with_header n lines (Ok header) = outcome_with_commands header (items_from header.sizes false lines)
+outcome_with_header n lines (Ok header) = outcome_with_commands header (items_from header.sizes lines)
 outcome_with_header n lines (Err kind) = bad n kind
 
 -- all lines that aren't blank, each with its number: the header, and then commands and the schedule

@@ -1,14 +1,5 @@
 use n1ql_value::Memory;
-use scan_history::{Event, Happened, Numbers, defined_field, laws};
-
-#[test]
-fn one_statement_is_read(rt: HostRuntime) {
-    assert_eq!(rt; defined_field("CREATE INDEX ix ON ks(x)"), Some(b'x'));
-    assert_eq!(rt; defined_field("CREATE INDEX ix ON ks(X)"), None);
-    assert_eq!(rt; defined_field("CREATE INDEX ix ON ks(x) "), None);
-    assert_eq!(rt; defined_field("CREATE INDEX iy ON ks(x)"), None);
-    assert_eq!(rt; defined_field(""), None);
-}
+use scan_history::{Event, Happened, Numbers, laws};
 
 #[test]
 fn an_event_is_read_as_it_was_made(rt: HostRuntime) -> Result<(), Memory> {

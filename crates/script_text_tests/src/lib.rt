@@ -6,4 +6,6 @@ mod histories;
 #[cfg(test)]
 mod report_lines;
 #[cfg(test)]
+mod showing;
+#[cfg(test)]
 mod tests;

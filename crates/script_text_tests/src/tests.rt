@@ -1,97 +1,10 @@
-use n1ql_json::write;
-use n1ql_value::{Memory, Range, Value};
-use scan_coord::Demand;
-use scan_history::{Ask, Command, Kind, Script, What};
+use crate::showing::shown;
+use n1ql_value::Memory;
+use scan_history::{Kind, What};
 use script_text::{ScriptFault, read_script};
 use std::alloc::Global;
 use std::process::Abort;
 use std::test::Fail;
-
-/// A value, where there is one.
-fn put_value(out: &mut Vec<u8>, value: &Option<Value>) -> Result<(), Memory> {
-    match value {
-        Some(value) => write(value, out),
-        None => Ok(out.push(b'_')?),
-    }
-}
-
-fn put_range(out: &mut Vec<u8>, range: &Range) -> Result<(), Memory> {
-    put_value(out, &range.low)?;
-    out.push(b"nlhb"[usize::from(range.incl % 4)])?;
-    put_value(out, &range.high)
-}
-
-/// What a request asks, nothing where it asks for nothing and waits.
-fn put_ask(out: &mut Vec<u8>, ask: &Ask) -> Result<(), Memory> {
-    let demand = match &ask.demand {
-        Demand::NotBounded => "",
-        Demand::AtPlus(_) => "@vector",
-        Demand::Mine => "@mine",
-        Demand::RequestPlus => "@all",
-    };
-    let wait = if ask.wait { "" } else { "!" };
-    out.extend_from_slice(demand.as_bytes())?;
-    out.extend_from_slice(wait.as_bytes())?;
-    Ok(())
-}
-
-fn put_command(out: &mut Vec<u8>, command: &Command) -> Result<(), Memory> {
-    match command {
-        Command::Upsert { id, doc } => {
-            out.extend_from_slice(b"+")?;
-            out.extend_from_slice(id.as_str().as_bytes())?;
-            out.push(b'=')?;
-            write(doc, out)?;
-        }
-        Command::Delete { id } => {
-            out.extend_from_slice(b"-")?;
-            out.extend_from_slice(id.as_str().as_bytes())?;
-        }
-        Command::Ddl { text } => out.extend_from_slice(text.as_str().as_bytes())?,
-        Command::Scan { index, spans, ask } => {
-            out.extend_from_slice(b"?")?;
-            out.extend_from_slice(index.as_str().as_bytes())?;
-            for span in spans.as_slice() {
-                out.push(b'[')?;
-                for range in span.as_slice() {
-                    out.push(b'(')?;
-                    put_range(out, range)?;
-                    out.push(b')')?;
-                }
-                out.push(b']')?;
-            }
-            put_ask(out, ask)?;
-        }
-    }
-    Ok(())
-}
-
-/// A script in a line of its own.
-fn shown(alloc: Global, script: &Script) -> Result<Vec<u8>, Memory> {
-    let Script {
-        vbuckets,
-        clients,
-        workers,
-        batch,
-        ..
-    } = script;
-    let header = format!(in alloc;
-        "{vbuckets} {clients} {workers} {batch} {}",
-        script.keyspace.as_str()
-    )?;
-    let mut out = Vec::from_slice(alloc, header.as_bytes())?;
-    for commands in script.commands.as_slice() {
-        out.push(b'|')?;
-        for command in commands.as_slice() {
-            out.push(b' ')?;
-            put_command(&mut out, command)?;
-        }
-    }
-    if !script.schedule.is_empty() {
-        out.extend_from_slice(b"|schedule")?;
-    }
-    Ok(out)
-}
 
 /// What an input is: the script, or the fault.
 fn outcome(alloc: Global, input: &[u8]) -> Result<String, Memory> {
@@ -148,7 +61,11 @@ fn headers(rt: HostRuntime) -> Result<(), Fail> {
         (r#"{"gsi":1,"vbuckets":0,"clients":1}"#, "1 Range"),
         (r#"{"gsi":1,"vbuckets":1025,"clients":1}"#, "1 Range"),
         (r#"{"gsi":1,"vbuckets":1,"clients":65}"#, "1 Range"),
-        (r#"{"gsi":1,"vbuckets":1,"clients":64}"#, "1 Unbuilt"),
+        (r#"{"gsi":1,"vbuckets":1,"clients":0}"#, "1 Range"),
+        (
+            r#"{"gsi":1,"vbuckets":1,"clients":64}"#,
+            "1 64 2 64 ks||||||||||||||||||||||||||||||||||||||||||||||||||||||||||||||||",
+        ),
     ];
     each_is(&rt, rt.alloc(), "", &rows, "")
 }
@@ -159,7 +76,15 @@ fn header_members(rt: HostRuntime) -> Result<(), Fail> {
         (r#","readers":0"#, "1 Shape"),
         (r#","keyspace":1"#, "1 Shape"),
         (r#","keyspace":"""#, "1 Range"),
-        (r#","keyspace":"shop""#, "1 Unbuilt"),
+        (r#","keyspace":"shop""#, "1 1 2 64 shop|"),
+        (
+            r#","keyspace":"a name that is read and kept, whatever its signs, as long as it has at most one hundred bytes.... é""#,
+            "1 1 2 64 a name that is read and kept, whatever its signs, as long as it has at most one hundred bytes.... é|",
+        ),
+        (
+            r#","keyspace":"a name that is read and kept, whatever its signs, as long as it has at most one hundred bytes.... é!""#,
+            "1 Range",
+        ),
         (r#","workers":17"#, "1 Range"),
         (r#","workers":-1"#, "1 Range"),
         (r#","batch":0"#, "1 Range"),
@@ -201,11 +126,20 @@ fn commands(rt: HostRuntime) -> Result<(), Fail> {
             r#"4 1 2 64 ks| +a={"a":-1,"b":[true,"z"]}"#,
         ),
         (r#"{"c":0,"do":"ddl","q":7}"#, "2 Shape"),
+        (r#"{"c":0,"do":"ddl"}"#, "2 Shape"),
         (
-            r#"{"c":0,"do":"ddl","q":"CREATE INDEX ix ON ks(X)"}"#,
-            "2 Unbuilt",
+            r#"{"c":0,"do":"ddl","q":"DROP INDEX ix ON ks"}"#,
+            "4 1 2 64 ks| :DROP INDEX ix ON ks",
         ),
-        (r#"{"c":0,"do":"scan","index":"ix"}"#, "2 Unbuilt"),
+        (
+            r#"{"c":0,"do":"ddl","q":"CREATE é"}"#,
+            "4 1 2 64 ks| :CREATE é",
+        ),
+        (r#"{"c":0,"do":"ddl","q":""}"#, "4 1 2 64 ks| :"),
+        (r#"{"c":0,"do":"scan","index":"no"}"#, "4 1 2 64 ks| ?no[]"),
+        (r#"{"c":0,"do":"scan","index":""}"#, "4 1 2 64 ks| ?[]"),
+        (r#"{"c":0,"do":"scan","index":0}"#, "2 Shape"),
+        (r#"{"c":0,"do":"scan"}"#, "2 Shape"),
         (r#"{"c":0,"do":"query","q":"SELECT 1"}"#, "2 Unbuilt"),
         (
             "\n \n{\"c\":0,\"do\":\"delete\",\"id\":\"a\"}\n\n{\n[",
@@ -224,18 +158,18 @@ fn commands(rt: HostRuntime) -> Result<(), Fail> {
 #[test]
 fn scans(rt: HostRuntime) -> Result<(), Fail> {
     let rows = [
-        ("", "4 1 2 64 ks| CREATE INDEX ix ON ks(x) ?ix[]"),
+        ("", "4 1 2 64 ks| :CREATE INDEX ix ON ks(x) ?ix[]"),
         (
             r#","spans":[]"#,
-            "4 1 2 64 ks| CREATE INDEX ix ON ks(x) ?ix",
+            "4 1 2 64 ks| :CREATE INDEX ix ON ks(x) ?ix",
         ),
         (
             r#","spans":[[],[{}]]"#,
-            "4 1 2 64 ks| CREATE INDEX ix ON ks(x) ?ix[][(_b_)]",
+            "4 1 2 64 ks| :CREATE INDEX ix ON ks(x) ?ix[][(_b_)]",
         ),
         (
             r#","spans":[[{"low":1,"high":3,"incl":1},{"low":null}],[{"high":[],"incl":0}]]"#,
-            "4 1 2 64 ks| CREATE INDEX ix ON ks(x) ?ix[(1l3)(nullb_)][(_n[])]",
+            "4 1 2 64 ks| :CREATE INDEX ix ON ks(x) ?ix[(1l3)(nullb_)][(_n[])]",
         ),
         (r#","spans":[{}]"#, "3 Shape"),
         (r#","spans":[[{"x":1}]]"#, "3 Shape"),
@@ -260,22 +194,38 @@ fn requests(rt: HostRuntime) -> Result<(), Fail> {
     let rows = [
         (
             r#","consistency":"not_bounded","wait":true"#,
-            "4 1 2 64 ks| CREATE INDEX ix ON ks(x) ?ix[]",
+            "4 1 2 64 ks| :CREATE INDEX ix ON ks(x) ?ix[]",
         ),
-        (r#","wait":false"#, "3 Unbuilt"),
+        (
+            r#","wait":false"#,
+            "4 1 2 64 ks| :CREATE INDEX ix ON ks(x) ?ix[]!",
+        ),
         (r#","wait":null"#, "3 Shape"),
         (r#","wait":1"#, "3 Shape"),
-        (r#","consistency":"request_plus""#, "3 Unbuilt"),
+        (
+            r#","consistency":"request_plus""#,
+            "4 1 2 64 ks| :CREATE INDEX ix ON ks(x) ?ix[]@all",
+        ),
+        (
+            r#","wait":false,"spans":[],"consistency":"request_plus""#,
+            "4 1 2 64 ks| :CREATE INDEX ix ON ks(x) ?ix@all!",
+        ),
         (r#","consistency":"exact""#, "3 Shape"),
         (r#","consistency":null"#, "3 Shape"),
         (r#","at":"mine""#, "3 Shape"),
         (r#","consistency":"not_bounded","at":null"#, "3 Shape"),
         (r#","consistency":"request_plus","at":"mine""#, "3 Shape"),
         (r#","consistency":"at_plus""#, "3 Shape"),
-        (r#","consistency":"at_plus","at":"mine""#, "3 Unbuilt"),
+        (
+            r#","consistency":"at_plus","at":"mine""#,
+            "4 1 2 64 ks| :CREATE INDEX ix ON ks(x) ?ix[]@mine",
+        ),
         (r#","consistency":"at_plus","at":"theirs""#, "3 Shape"),
         (r#","consistency":"at_plus","at":[0]"#, "3 Shape"),
-        (r#","consistency":"at_plus","at":{}"#, "3 Unbuilt"),
+        (
+            r#","consistency":"at_plus","at":{}"#,
+            "4 1 2 64 ks| :CREATE INDEX ix ON ks(x) ?ix[]@ 0 0 0 0",
+        ),
     ];
     each_is(
         &rt,
@@ -312,7 +262,19 @@ fn queries(rt: HostRuntime) -> Result<(), Fail> {
 #[test]
 fn vectors(rt: HostRuntime) -> Result<(), Fail> {
     let rows = [
-        (r#""0":1,"3":0"#, "3 Unbuilt"),
+        (
+            r#""0":1,"3":0"#,
+            "4 1 2 64 ks| :CREATE INDEX ix ON ks(x) ?ix[]@ 1 0 0 0",
+        ),
+        (
+            r#""3":9223372036854775807,"1":2"#,
+            "4 1 2 64 ks| :CREATE INDEX ix ON ks(x) ?ix[]@ 0 2 0 9223372036854775807",
+        ),
+        (
+            r#""2":5,"2":7"#,
+            "4 1 2 64 ks| :CREATE INDEX ix ON ks(x) ?ix[]@ 0 0 7 0",
+        ),
+        (r#""0":9223372036854775808"#, "3 Number"),
         (r#""4":1"#, "3 Range"),
         (r#""0":-1"#, "3 Range"),
         (r#""0":"1""#, "3 Shape"),
@@ -333,38 +295,129 @@ fn vectors(rt: HostRuntime) -> Result<(), Fail> {
     )
 }
 
+// Lines of three clients and of the schedule in any order, each kept among its own.
 #[test]
-fn schedules(rt: HostRuntime) -> Result<(), Fail> {
+fn several_clients(rt: HostRuntime) -> Result<(), Fail> {
     let rows = [
-        (r#""client","c":0"#, "2 Unbuilt"),
-        (r#""client","c":1"#, "2 Range"),
-        (r#""client""#, "2 Shape"),
-        (r#""wait""#, "2 Shape"),
-        (r#""project","vb":3"#, "2 Unbuilt"),
-        (r#""project","vb":0,"index":"ix""#, "2 Unbuilt"),
-        (r#""project","vb":4,"index":"ix""#, "2 Range"),
-        (r#""project","vb":-1"#, "2 Range"),
-        (r#""project","index":"ix""#, "2 Shape"),
-        (r#""project","vb":0,"index":0"#, "2 Shape"),
-        (r#""deliver","index":"ix""#, "2 Unbuilt"),
-        (r#""deliver","index":"ix","place":2"#, "2 Unbuilt"),
-        (r#""deliver","index":"ix","place":-1"#, "2 Range"),
-        (r#""deliver","index":"ix","place":null"#, "2 Shape"),
-        (r#""lose","index":"","place":0"#, "2 Unbuilt"),
-        (r#""lose","place":0"#, "2 Shape"),
-        (r#""publish","index":"ix""#, "2 Unbuilt"),
-        (r#""publish","index":"ix","c":0"#, "2 Shape"),
-        (r#""rewind","to":{}"#, "2 Unbuilt"),
-        (r#""rewind","to":{"3":1},"index":"ix""#, "2 Unbuilt"),
-        (r#""rewind","to":{"4":0}"#, "2 Range"),
-        (r#""rewind","to":"mine""#, "2 Shape"),
-        (r#""rewind""#, "2 Shape"),
-        (r#""client","c":0,"do":"delete""#, "2 Shape"),
+        (r#"{"c":2,"do":"delete","id":"a"}"#, "4 3 2 64 ks||| -a"),
+        (
+            "{\"c\":1,\"do\":\"delete\",\"id\":\"a\"}\n{\"c\":0,\"do\":\"delete\",\"id\":\"b\"}\n{\"c\":1,\"do\":\"delete\",\"id\":\"c\"}",
+            "4 3 2 64 ks| -b| -a -c|",
+        ),
+        (
+            "{\"s\":\"client\",\"c\":1}\n{\"c\":1,\"do\":\"scan\",\"index\":\"ix\",\"wait\":false}\n{\"s\":\"client\",\"c\":2}\n{\"c\":0,\"do\":\"ddl\",\"q\":\"\"}",
+            "4 3 2 64 ks| :| ?ix[]!|; client 1; client 2",
+        ),
+        (r#"{"c":3,"do":"delete","id":"a"}"#, "2 Range"),
+        (r#"{"c":3,"do":"ddl","q":""}"#, "2 Range"),
+        (r#"{"c":3,"do":"scan","index":"ix"}"#, "2 Range"),
+        (r#"{"c":"1","do":"delete","id":"a"}"#, "2 Shape"),
+        (r#"{"do":"delete","id":"a"}"#, "2 Shape"),
+        (
+            "{\"s\":\"client\",\"c\":2}\n{\"s\":\"client\",\"c\":3}",
+            "3 Range",
+        ),
+        (r#"{"c":2,"do":"query","q":"SELECT 1"}"#, "2 Unbuilt"),
     ];
     each_is(
         &rt,
         rt.alloc(),
-        "{\"gsi\":1,\"vbuckets\":4,\"clients\":1}\n{\"s\":",
+        "{\"gsi\":1,\"vbuckets\":4,\"clients\":3}\n",
+        &rows,
+        "",
+    )
+}
+
+#[test]
+fn schedules(rt: HostRuntime) -> Result<(), Fail> {
+    let rows = [
+        (r#""client","c":0"#, "4 2 2 64 ks||; client 0"),
+        (r#""client","c":1"#, "4 2 2 64 ks||; client 1"),
+        (r#""client","c":2"#, "2 Range"),
+        (r#""client","c":-1"#, "2 Range"),
+        (r#""client""#, "2 Shape"),
+        (r#""client","c":0,"index":"ix""#, "2 Shape"),
+        (r#""wait""#, "2 Shape"),
+        (r#""project","vb":3"#, "4 2 2 64 ks||; project 3"),
+        (
+            r#""project","vb":0,"index":"ix""#,
+            "4 2 2 64 ks||; project 0 of ix",
+        ),
+        (
+            r#""project","vb":1,"index":"""#,
+            "4 2 2 64 ks||; project 1 of ",
+        ),
+        (r#""project","vb":4,"index":"ix""#, "2 Range"),
+        (r#""project","vb":-1"#, "2 Range"),
+        (r#""project","index":"ix""#, "2 Shape"),
+        (r#""project","vb":0,"index":0"#, "2 Shape"),
+        (r#""project","vb":0,"index":null"#, "2 Shape"),
+        (r#""project","vb":0,"place":0"#, "2 Shape"),
+        (
+            r#""deliver","index":"ix""#,
+            "4 2 2 64 ks||; deliver 0 of ix",
+        ),
+        (
+            r#""deliver","index":"no","place":2"#,
+            "4 2 2 64 ks||; deliver 2 of no",
+        ),
+        (r#""deliver","index":"ix","place":-1"#, "2 Range"),
+        (r#""deliver","index":"ix","place":null"#, "2 Shape"),
+        (r#""deliver","index":"ix","vb":0"#, "2 Shape"),
+        (r#""lose","index":"ix""#, "4 2 2 64 ks||; lose 0 of ix"),
+        (
+            r#""lose","index":"","place":9223372036854775807"#,
+            "4 2 2 64 ks||; lose 9223372036854775807 of ",
+        ),
+        (r#""lose","index":"ix","place":-1"#, "2 Range"),
+        (r#""lose","place":0"#, "2 Shape"),
+    ];
+    each_is(
+        &rt,
+        rt.alloc(),
+        "{\"gsi\":1,\"vbuckets\":4,\"clients\":2}\n{\"s\":",
+        &rows,
+        "}",
+    )
+}
+
+#[test]
+fn publications_and_rewinds(rt: HostRuntime) -> Result<(), Fail> {
+    let rows = [
+        (r#""publish","index":"ix""#, "4 2 2 64 ks||; publish ix"),
+        (r#""publish","index":"""#, "4 2 2 64 ks||; publish "),
+        (r#""publish","index":"ix","c":0"#, "2 Shape"),
+        (r#""publish""#, "2 Shape"),
+        (r#""rewind","to":{}"#, "4 2 2 64 ks||; rewind 0 0 0 0"),
+        (
+            r#""rewind","to":{"3":1,"1":7}"#,
+            "4 2 2 64 ks||; rewind 0 7 0 1",
+        ),
+        (
+            r#""rewind","to":{"3":1},"index":"ix""#,
+            "4 2 2 64 ks||; rewind 0 0 0 1 of ix",
+        ),
+        (
+            r#""rewind","index":"no","to":{"2":9223372036854775807}"#,
+            "4 2 2 64 ks||; rewind 0 0 9223372036854775807 0 of no",
+        ),
+        (r#""rewind","to":{"4":0}"#, "2 Range"),
+        (r#""rewind","to":{"0":-1}"#, "2 Range"),
+        (r#""rewind","to":{"00":1}"#, "2 Shape"),
+        (r#""rewind","to":"mine""#, "2 Shape"),
+        (r#""rewind","to":{},"index":0"#, "2 Shape"),
+        (r#""rewind","index":"ix""#, "2 Shape"),
+        (r#""rewind""#, "2 Shape"),
+        (r#""client","c":0,"do":"delete""#, "2 Shape"),
+        (
+            "\"publish\",\"index\":\"ix\"}\n{\"s\":\"lose\",\"index\":\"ix\",\"place\":1}\n{\"s\":\"client\",\"c\":1",
+            "4 2 2 64 ks||; publish ix; lose 1 of ix; client 1",
+        ),
+    ];
+    each_is(
+        &rt,
+        rt.alloc(),
+        "{\"gsi\":1,\"vbuckets\":4,\"clients\":2}\n{\"s\":",
         &rows,
         "}",
     )
@@ -389,12 +442,17 @@ fn limits(rt: HostRuntime) -> Result<(), Fail> {
         "{\"gsi\":1,\"vbuckets\":1024,\"clients\":1}\n{\"c\":0,\"do\":\"ddl\",\"q\":\"CREATE INDEX ix ON ks(x)\"}\n";
     let delete = "{\"c\":0,\"do\":\"delete\",\"id\":\"a\"}\n";
     let scan = "{\"c\":0,\"do\":\"scan\",\"index\":\"ix\"}\n";
+    let client = "{\"s\":\"client\",\"c\":0}\n";
     let past = |what, limit| Some(ScriptFault::TooLarge { what, limit });
     for (front, line, count, want) in [
         (one, delete, 65_537, past(What::Lines, 65_536)),
         (many, delete, 4_096, None),
         (many, delete, 4_097, past(What::Product, 4_194_304)),
+        (many, client, 4_096, None),
+        (many, client, 4_097, past(What::Product, 4_194_304)),
+        (one, client, 65_537, past(What::Lines, 65_536)),
         (defined, scan, 1_024, None),
+        (one, scan, 1_025, past(What::Scans, 1_024)),
         (defined, scan, 1_025, past(What::Scans, 1_024)),
         (defined_in_many, scan, 4_096, past(What::Product, 4_194_304)),
     ] {

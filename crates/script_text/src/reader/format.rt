@@ -7,4 +7,3 @@ pub(crate) mod name;
 pub(crate) mod row;
 pub(crate) mod shape;
 pub(crate) mod sizes;
-pub(crate) mod supported;

@@ -7,7 +7,6 @@ use crate::reader::format::name::Name;
 use crate::reader::format::row::HEADER;
 use crate::reader::format::shape::{has_shape, is_within};
 use crate::reader::format::sizes::Sizes;
-use crate::reader::format::supported::is_header_supported;
 use crate::reader::script::line::members_of;
 use crate::reader::script::line_fault::LineFault;
 use crate::reader::values::members::{count_at, number_at, text_at};
@@ -47,9 +46,6 @@ fn checked_header(alloc: Global, members: &Pairs) -> Result<Header, LineFault>
     }
     if !is_within(NO_SIZES, &HEADER, members) {
         return Err(LineFault::Bad(Kind::Range));
-    }
-    if !is_header_supported(members) {
-        return Err(LineFault::Bad(Kind::Unbuilt));
     }
     Ok(header_with(alloc, members)?)
 }

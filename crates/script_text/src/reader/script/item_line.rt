@@ -7,7 +7,6 @@ use crate::reader::format::form::Form;
 use crate::reader::format::name::Name;
 use crate::reader::format::shape::{has_shape, is_within};
 use crate::reader::format::sizes::Sizes;
-use crate::reader::format::supported::is_supported;
 use crate::reader::script::command::command_of;
 use crate::reader::script::item::Item;
 use crate::reader::script::line::members_of;
@@ -18,50 +17,36 @@ use n1ql_value::{Memory, Pairs};
 use scan_history::Kind;
 use std::alloc::Global;
 
-/// What a line after the header says; `defined` tells whether a ddl line came before it.
+/// What a line after the header says.
 #[tactic(auto, unfolding(crate::specs::Items::item_of_line))]
-pub(crate) fn read_item_line(
-    alloc: Global,
-    sizes: Sizes,
-    defined: bool,
-    line: &[u8],
-) -> Result<Item, LineFault>
+pub(crate) fn read_item_line(alloc: Global, sizes: Sizes, line: &[u8]) -> Result<Item, LineFault>
     requires { IsVBucketCount sizes.vbuckets }
-    ensures { LineReadsAs (item_of_line sizes defined line.now) result }
+    ensures { LineReadsAs (item_of_line sizes line.now) result }
 {
     let members = members_of(alloc, line)?;
-    by_form(alloc, sizes, defined, members)
+    by_form(alloc, sizes, members)
 }
 
-fn by_form(alloc: Global, sizes: Sizes, defined: bool, members: Pairs) -> Result<Item, LineFault>
+fn by_form(alloc: Global, sizes: Sizes, members: Pairs) -> Result<Item, LineFault>
     requires { IsVBucketCount sizes.vbuckets }
-    ensures { LineReadsAs (item_by_form sizes defined members) result }
+    ensures { LineReadsAs (item_by_form sizes members) result }
 {
     match Form::of(&members) {
-        Some(form) => checked(alloc, sizes, defined, form, members),
+        Some(form) => checked(alloc, sizes, form, members),
         None => Err(LineFault::Bad(Kind::Shape)),
     }
 }
 
 #[tactic(auto, unfolding(crate::specs::Items::item_checked))]
-fn checked(
-    alloc: Global,
-    sizes: Sizes,
-    defined: bool,
-    form: Form,
-    members: Pairs,
-) -> Result<Item, LineFault>
+fn checked(alloc: Global, sizes: Sizes, form: Form, members: Pairs) -> Result<Item, LineFault>
     requires { IsVBucketCount sizes.vbuckets }
-    ensures { LineReadsAs (item_checked sizes defined form members) result }
+    ensures { LineReadsAs (item_checked sizes form members) result }
 {
     if !has_shape(form.row(), &members) {
         return Err(LineFault::Bad(Kind::Shape));
     }
     if !is_within(sizes, form.row(), &members) {
         return Err(LineFault::Bad(Kind::Range));
-    }
-    if !is_supported(defined, form, &members) {
-        return Err(LineFault::Bad(Kind::Unbuilt));
     }
     match item_of(alloc, sizes, form, members)? {
         Some(item) => Ok(item),

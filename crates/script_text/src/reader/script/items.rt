@@ -1,7 +1,6 @@
-ghost use Rattle.std.specs.Prelude.{◌≡◌, false};
 ghost use Rattle.std.specs.Result.{result_err};
 ghost use Rattle.script_text.specs.inner.Lines.{LinesReadAs, ChecksAs, IsVBucketCount};
-ghost use Rattle.script_text.specs.Scripts.{is_ddl, defines, items_from};
+ghost use Rattle.script_text.specs.Scripts.{items_from};
 
 use crate::reader::format::sizes::Sizes;
 use crate::reader::script::input::Lines;
@@ -9,7 +8,6 @@ use crate::reader::script::item::Item;
 use crate::reader::script::item_line::read_item_line;
 use crate::reader::script::script_fault::ScriptFault;
 use n1ql_value::ListOf;
-use scan_history::Command;
 use std::alloc::Global;
 
 /// What the lines after the header say, in order.
@@ -19,16 +17,12 @@ pub(crate) fn items_from(
     lines: Lines<'_>,
 ) -> Result<ListOf<Item>, ScriptFault>
     requires { IsVBucketCount sizes.vbuckets }
-    ensures { LinesReadAs (items_from sizes false lines.entry) result }
+    ensures { LinesReadAs (items_from sizes lines.entry) result }
 {
     let mut items = ListOf::new(alloc);
-    let mut defined = false;
     'lines: for line in lines {
-        match read_item_line(alloc, sizes, defined, line.bytes) {
-            Ok(item) => {
-                defined |= defines(&item);
-                items.push(item)?;
-            }
+        match read_item_line(alloc, sizes, line.bytes) {
+            Ok(item) => items.push(item)?,
             Err(fault) => return Err(fault.at(line.number)),
         }
     }
@@ -38,30 +32,12 @@ pub(crate) fn items_from(
 /// That no line after the header is bad. What they say is not kept.
 pub(crate) fn check_lines(alloc: Global, sizes: Sizes, lines: Lines<'_>) -> Result<(), ScriptFault>
     requires { IsVBucketCount sizes.vbuckets }
-    ensures { ChecksAs (result_err (items_from sizes false lines.entry)) result }
+    ensures { ChecksAs (result_err (items_from sizes lines.entry)) result }
 {
-    let mut defined = false;
     'lines: for line in lines {
-        match read_item_line(alloc, sizes, defined, line.bytes) {
-            Ok(item) => defined |= defines(&item),
-            Err(fault) => return Err(fault.at(line.number)),
+        if let Err(fault) = read_item_line(alloc, sizes, line.bytes) {
+            return Err(fault.at(line.number));
         }
     }
     Ok(())
-}
-
-/// Whether a line defines an index.
-fn defines(item: &Item) -> bool
-    ensures { result ≡ defines item.now }
-{
-    match item {
-        Item::Command { command, .. } => is_ddl(command),
-        Item::Turn { .. } => false,
-    }
-}
-
-fn is_ddl(command: &Command) -> bool
-    ensures { result ≡ is_ddl command.now }
-{
-    matches!(command, Command::Ddl { .. })
 }

@@ -1,6 +1,5 @@
-ghost use Rattle.std.specs.Prelude.{◌≡◌, ℕ, IfOk, Err, count_by, false};
+ghost use Rattle.std.specs.Prelude.{◌≡◌, ℕ, IfOk, Err, count_by};
 ghost use Rattle.scan_history.specs.Sound.{is_scan, IsSound};
-ghost use Rattle.scan_history.specs.Supported.{IsSupported};
 ghost use Rattle.script_text.specs.Items.{header_of_line};
 ghost use Rattle.script_text.specs.inner.Limits.{limit_passed, outcome_within_scans};
 ghost use Rattle.script_text.specs.inner.Lines.{IsVBucketCount};
@@ -29,7 +28,6 @@ use std::alloc::Global;
 pub fn read_script(alloc: Global, input: &[u8]) -> Result<Script, ScriptFault>
     ensures gives { ReadsAs (script_of input.now) result }
     ensures sound { IfOk result (λ script. IsSound script) }
-    ensures built { IfOk result (λ script. IsSupported script) }
     ensures limits { (limit : ℕ) → ¬ (result ≡ Err (ScriptFault.TooLarge What.Input limit)) }
 {
     read_lines(alloc, Lines::new(input))
@@ -59,7 +57,7 @@ fn read_header_line(alloc: Global, line: Line<'_>, lines: Lines<'_>) -> Result<S
 
 fn read_item_lines(alloc: Global, header: Header, lines: Lines<'_>) -> Result<Script, ScriptFault>
     requires { IsVBucketCount header.sizes.vbuckets }
-    ensures { ReadsAs (outcome_with_commands header (items_from header.sizes false lines.entry)) result }
+    ensures { ReadsAs (outcome_with_commands header (items_from header.sizes lines.entry)) result }
 {
     match limit_passed(header.sizes.vbuckets, lines.len() as u64) {
         // a bad line goes before a limit, so each is read, but what so many say is not kept

@@ -6,6 +6,5 @@ lines-init c = items_from-first c.args.sizes c.args.lines c.into_iter-line-itera
 
 pub lines-preserved : goal.lines-preserved
 lines-preserved c =
-    items_from-turn _ c.args.sizes c.lines.items c.push.new.self c.lines.defined c.defines-defined.result (c.in-Some.line.number, c.in-Some.line.bytes.now)
-    c.lines.line-iterator c.next.new.self c.in-Ok.item c.lines.invariant c.in-Some.ensures.steps c.in-Ok.ensures
-    c.defines-defined.ensures c.in_ok-push-in-Ok.ensures.ok
+    items_from-turn _ c.args.sizes c.lines.items c.push.new.self (c.in-Some.line.number, c.in-Some.line.bytes.now)
+    c.lines.line-iterator c.next.new.self c.in-Ok.item c.lines.invariant c.in-Some.ensures.steps c.in-Ok.ensures c.in_ok-push-in-Ok.ensures.ok
