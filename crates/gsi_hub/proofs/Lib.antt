@@ -9,6 +9,7 @@ pub mod Calls
 pub mod Keeping
 pub mod Sending
 pub mod Statements
+pub mod Admissions
 pub mod Pieces
 pub mod Beginnings
 pub mod Endings

@@ -132,6 +132,13 @@ impl Hub {
         commands.get(self.next_of(c) as usize)
     }
 
+    /// The events so far.
+    pub fn events(&self) -> &[Happened]
+        ensures { result.now ≡ self.now.events }
+    {
+        self.events.as_slice()
+    }
+
     /// The history.
     pub fn into_events(self) -> Events
         ensures events { result ≡ self.events }

@@ -1,15 +1,12 @@
 use Rattle.std.proofs.Common.{◌≡◌, ℕ, ◌-◌, ◌<◌, List, [], ◌∷◌, ◌++◌, length, set, vec_len, None, refl, sym, ap, ◌∙◌, subst, arith}
 use Rattle.std.specs.Prelude.{vec_capacity}
 use Rattle.std.specs.Arc.{arc_value}
-use Rattle.std.specs.List.{list_all}
 use Rattle.vb_store.specs.Mutations.{high_of}
-use Rattle.index_def.specs.LiveIndexes.{Live, is_live, is_live_deferred, first_of_each, numbers_of}
+use Rattle.index_def.specs.LiveIndexes.{first_of_each, numbers_of}
 use Rattle.index_ddl.specs.Catalogs.{build_fault}
-use Rattle.scan_history.specs.declared.why.Why.TheVariants.{Plain}
-use Rattle.scan_history.specs.Events.{Event, build, refuse}
+use Rattle.scan_history.specs.Events.{Event, build}
 use Rattle.scan_history.specs.First.{first_of_build}
 use Rattle.scan_history.specs.Fold.{work, state_after}
-use Rattle.scan_history.specs.Refusals as code
 use Rattle.gsi_hub.specs.Outcomes.{IsDefined}
 use Rattle.gsi_hub.specs.declared.defined.Defined.TheVariants.{Building}
 use Rattle.gsi_hub.specs.Past.{Past, state_of, part_in, high_in, Acted}
@@ -18,8 +15,9 @@ use Rattle.gsi_hub.specs.inner.Newest.{newest_of}
 use Rattle.gsi_hub.specs.inner.Parts.{parts_of}
 use Rattle.gsi_hub.specs.inner.Steps.{IsFirstEvent, with_opened}
 use Rattle.gsi_hub.proofs.Calls.{hub_built}
-use Rattle.gsi_hub.proofs.Statements.{no_fault, build_done, few_numbers}
-use Rattle.gsi_hub.proofs.Steps.{acted, first_comes, part_there_in}
+use Rattle.gsi_hub.proofs.Admissions.{build_comes}
+use Rattle.gsi_hub.proofs.Statements.{no_fault, few_numbers}
+use Rattle.gsi_hub.proofs.Steps.{acted, part_there_in}
 use Rattle.gsi_hub.proofs.hub.Hub.build_named.Goals as goal
 
 pub filled-indexes-requires-clause-room : goal.filled-indexes-requires-clause-room
@@ -61,18 +59,12 @@ invariant_of-self c =
     let first : IsFirstEvent old i (first_of_build s i k c.args.names.now) =
     subst (λ (q : Past). IsFirstEvent q i (first_of_build (state_of q) i (part_in q i).next c.args.names.now)) (sym c.self.view_is) c.requires.first in
     let names : List (List ℕ) = c.args.names.now in
-    let no : build_fault names s.live ≡ None =
-    subst (λ (l : List Live). build_fault names l ≡ None) kept.state.live
-    (subst (λ (ns : List (List ℕ)). build_fault ns c.self.inside.catalog.live ≡ None) c.as_slice.ensures (no_fault (build_fault c.as_slice.result.now c.self.inside.catalog.live) numbers c.in-Ok.ensures.refused)) in
-    let which : numbers ≡ first_of_each (numbers_of names s.live) =
-    c.in-Ok.ensures.numbers ∙ (ap (λ (ns : List (List ℕ)). first_of_each (numbers_of ns c.self.inside.catalog.live)) c.as_slice.ensures
-    ∙ ap (λ (l : List Live). first_of_each (numbers_of names l)) kept.state.live) in
+    let no : build_fault names indexes.live ≡ None =
+    subst (λ (ns : List (List ℕ)). build_fault ns indexes.live ≡ None) c.as_slice.ensures (no_fault (build_fault c.as_slice.result.now indexes.live) numbers c.in-Ok.ensures.refused) in
+    let which : numbers ≡ first_of_each (numbers_of names indexes.live) =
+    c.in-Ok.ensures.numbers ∙ ap (λ (ns : List (List ℕ)). first_of_each (numbers_of ns indexes.live)) c.as_slice.ensures in
+    let may = build_comes c.known.ensures old store indexes newest parts kept i k names numbers no which first in
     let e : Event = build i k numbers in
-    let first' : IsFirstEvent old i e =
-    subst (λ (ns : List ℕ). IsFirstEvent old i (build i k ns)) (sym which)
-    (subst (IsFirstEvent old i) (build_done (list_all (is_live s.live) names) (list_all (is_live_deferred s.live) names) (refuse i k code.unknown_index Plain) (refuse i k code.not_deferred Plain)
-    (build i k (first_of_each (numbers_of names s.live))) no) first) in
-    let may = first_comes c.known.ensures old i e first' in
     let high : c.in_ok-high.high ≡ high_of script.vbuckets s.log =
     subst (λ (q : Past). c.in_ok-high.high ≡ high_in q) (sym c.self.view_is) (c.in_ok-high.ensures ∙ c.high.ensures.newest) in
     let added : c.push_reserved.new.self.items ≡ events ++ e ∷ [] =
@@ -95,31 +87,20 @@ returns-in-Ok-clause-ok c =
     let parts = parts_of c.self.inside.parts.items in
     let events = c.self.inside.events.items in
     let s = state_after script.vbuckets events in
-    let client : c.args.c < script.clients = subst (λ (q : Past). c.args.c < q.script.clients) (sym c.self.view_is) c.requires.client in
-    let there = part_there_in script store indexes newest parts s c.args.c kept.state client in
     let k = (s.client c.args.c).next in
     let next : c.next_of-k.result ≡ k = subst (λ (q : Past). c.next_of-k.result ≡ (part_in q c.args.c).next) (sym c.self.view_is) c.next_of-k.ensures in
-    let parts' = parts_of c.begin_at.new.parts.items in
     let i = c.args.c in
     let numbers : List ℕ = c.in-Ok.numbers in
     let old : Past = record { script = script; events = events; spare = vec_capacity c.self.inside.events - vec_len c.self.inside.events } in
     let first : IsFirstEvent old i (first_of_build s i k c.args.names.now) =
     subst (λ (q : Past). IsFirstEvent q i (first_of_build (state_of q) i (part_in q i).next c.args.names.now)) (sym c.self.view_is) c.requires.first in
     let names : List (List ℕ) = c.args.names.now in
-    let no : build_fault names s.live ≡ None =
-    subst (λ (l : List Live). build_fault names l ≡ None) kept.state.live
-    (subst (λ (ns : List (List ℕ)). build_fault ns c.self.inside.catalog.live ≡ None) c.as_slice.ensures (no_fault (build_fault c.as_slice.result.now c.self.inside.catalog.live) numbers c.in-Ok.ensures.refused)) in
-    let which : numbers ≡ first_of_each (numbers_of names s.live) =
-    c.in-Ok.ensures.numbers ∙ (ap (λ (ns : List (List ℕ)). first_of_each (numbers_of ns c.self.inside.catalog.live)) c.as_slice.ensures
-    ∙ ap (λ (l : List Live). first_of_each (numbers_of names l)) kept.state.live) in
+    let no : build_fault names indexes.live ≡ None =
+    subst (λ (ns : List (List ℕ)). build_fault ns indexes.live ≡ None) c.as_slice.ensures (no_fault (build_fault c.as_slice.result.now indexes.live) numbers c.in-Ok.ensures.refused) in
+    let which : numbers ≡ first_of_each (numbers_of names indexes.live) =
+    c.in-Ok.ensures.numbers ∙ ap (λ (ns : List (List ℕ)). first_of_each (numbers_of ns indexes.live)) c.as_slice.ensures in
+    let may = build_comes c.known.ensures old store indexes newest parts kept i k names numbers no which first in
     let e : Event = build i k numbers in
-    let first' : IsFirstEvent old i e =
-    subst (λ (ns : List ℕ). IsFirstEvent old i (build i k ns)) (sym which)
-    (subst (IsFirstEvent old i) (build_done (list_all (is_live s.live) names) (list_all (is_live_deferred s.live) names) (refuse i k code.unknown_index Plain) (refuse i k code.not_deferred Plain)
-    (build i k (first_of_each (numbers_of names s.live))) no) first) in
-    let may = first_comes c.known.ensures old i e first' in
-    let high : c.in_ok-high.high ≡ high_of script.vbuckets s.log =
-    subst (λ (q : Past). c.in_ok-high.high ≡ high_in q) (sym c.self.view_is) (c.in_ok-high.ensures ∙ c.high.ensures.newest) in
     let added : c.push_reserved.new.self.items ≡ events ++ e ∷ [] =
     c.push_reserved.ensures.items ∙ ap (λ (x : Event). events ++ x ∷ []) (c.new.ensures ∙ (ap (λ (n : ℕ). build i n c.filled-indexes-in-Ok.result) next
     ∙ ap (build i k) (c.filled-indexes-in-Ok.ensures ∙ c.as_slice-in-Ok-2.ensures))) in

@@ -1,16 +1,11 @@
-use Rattle.std.proofs.Common.{◌≡◌, ℕ, ◌+◌, ◌-◌, ◌<◌, ◌≤◌, ◌^◌, List, [], ◌∷◌, ◌++◌, length, set, vec_len, Some, None, refl, sym, ap, ◌∙◌, subst, arith}
+use Rattle.std.proofs.Common.{◌≡◌, ℕ, ◌+◌, ◌-◌, ◌<◌, ◌^◌, List, [], ◌∷◌, ◌++◌, length, set, vec_len, Some, None, refl, sym, ap, ◌∙◌, subst, arith}
 use Rattle.std.specs.Prelude.{vec_capacity}
 use Rattle.std.specs.Arc.{arc_value}
-use Rattle.std.specs.Prelude.{cond, nat_le}
-use Rattle.n1ql_value.specs.Limits.{max_indexes}
 use Rattle.index_def.specs.declared.definition.IndexDef.{IndexDef}
-use Rattle.index_def.specs.LiveIndexes.{Live, is_live, state_at_creation}
+use Rattle.index_def.specs.LiveIndexes.{state_at_creation}
 use Rattle.index_ddl.specs.Catalogs.{Indexes, creation_fault}
-use Rattle.index_ddl.specs.declared.fault.DdlFault.TheVariants.{Exists, TooMany}
-use Rattle.scan_history.specs.declared.why.Why.TheVariants.{Plain}
-use Rattle.scan_history.specs.Events.{Event, define, refuse}
+use Rattle.scan_history.specs.Events.{Event, define}
 use Rattle.scan_history.specs.Fold.{Client, state_after}
-use Rattle.scan_history.specs.Refusals as code
 use Rattle.vb_store.specs.Mutations.{high_of}
 use Rattle.gsi_hub.specs.Outcomes.{IsDefined}
 use Rattle.gsi_hub.specs.Past.{Past, state_of, part_in, Acted}
@@ -21,8 +16,9 @@ use Rattle.gsi_hub.specs.inner.Definitions.{IsCreationOf, creation_of, IsWorkOf}
 use Rattle.gsi_hub.specs.inner.Steps.{IsFirstEvent}
 use Rattle.gsi_hub.proofs.Calls.{hub_created}
 use Rattle.gsi_hub.proofs.Snapshots.{newest_push}
-use Rattle.gsi_hub.proofs.Statements.{no_fault, creation_done, full, work_step, answer_is as answers, one_longer}
-use Rattle.gsi_hub.proofs.Steps.{acted, first_comes, room, part_there_in}
+use Rattle.gsi_hub.proofs.Admissions.{creation_comes}
+use Rattle.gsi_hub.proofs.Statements.{no_fault, work_step, answer_is as answers, one_longer}
+use Rattle.gsi_hub.proofs.Steps.{acted, room, part_there_in}
 use Rattle.gsi_hub.proofs.hub.Hub.create_prepared.Goals as goal
 
 pub define_at-requires-clause-room : goal.define_at-requires-clause-room
@@ -55,21 +51,12 @@ invariant_of-self-in-Ok c =
     subst (λ (q : Past). IsFirstEvent q i (creation_of (state_of q) i (part_in q i).next def deferred)) (sym c.self.view_is) c.requires.first in
     let made = subst (λ (q : Past). IsCreationOf q def deferred c.args.creation) (sym c.self.view_is) c.requires.prepared in
     let in_catalog : arc_value c.args.creation.shared ≡ def = made.in_catalog in
-    let holds = c.known.ensures.consistent script events kept.legal in
-    let number : j ≡ length s.defs = c.in-Ok.ensures.number ∙ kept.state.made in
-    let no : creation_fault def.name c.self.inside.catalog ≡ None =
-    subst (λ (d : IndexDef). creation_fault d.name c.self.inside.catalog ≡ None) in_catalog (no_fault (creation_fault (arc_value c.args.creation.shared).name c.self.inside.catalog) j c.in-Ok.ensures.refused) in
-    let few : c.self.inside.catalog.made ≤ 16 = subst (λ (n : ℕ). n ≤ 16) (sym kept.state.made) holds.made in
-    let no' : cond (is_live s.live def.name) (Some Exists) (cond (nat_le max_indexes (length s.defs)) (Some TooMany) None) ≡ None =
-    subst (λ (n : ℕ). cond (is_live s.live def.name) (Some Exists) (cond (nat_le max_indexes n) (Some TooMany) None) ≡ None) kept.state.made
-    (subst (λ (l : List Live). cond (is_live l def.name) (Some Exists) (cond (nat_le max_indexes c.self.inside.catalog.made) (Some TooMany) None) ≡ None) kept.state.live
-    (sym (ap (λ b. cond (is_live c.self.inside.catalog.live def.name) (Some Exists) (cond b (Some TooMany) None)) (full c.self.inside.catalog.made few)) ∙ no)) in
+    let no : creation_fault def.name indexes ≡ None =
+    subst (λ (d : IndexDef). creation_fault d.name indexes ≡ None) in_catalog (no_fault (creation_fault (arc_value c.args.creation.shared).name indexes) j c.in-Ok.ensures.refused) in
+    let comes = creation_comes c.known.ensures old store indexes newest parts kept i k j def deferred c.in-Ok.ensures.number no first in
+    let number : j ≡ length s.defs = comes.0 in
+    let may = comes.1 in
     let e : Event = define i k j deferred def in
-    let first' : IsFirstEvent old i e =
-    subst (λ (n : ℕ). IsFirstEvent old i (define i k n deferred def)) (sym number)
-    (subst (IsFirstEvent old i) (creation_done (is_live s.live def.name) (nat_le max_indexes (length s.defs)) (refuse i k code.exists Plain) (refuse i k code.too_many_indexes Plain)
-    (define i k (length s.defs) deferred def) no') first) in
-    let may = first_comes c.known.ensures old i e first' in
     let added : c.push_reserved-in-Ok.new.self.items ≡ events ++ e ∷ [] =
     c.push_reserved-in-Ok.ensures.items ∙ ap (λ (x : Event). events ++ x ∷ []) (c.new.ensures ∙ ap (λ (n : ℕ). define i n j deferred (arc_value c.args.creation.def)) next) in
     let more : newest_of c.push_reserved.new.self.items ≡ newest ++ Some (arc_value c.args.creation.snapshot) ∷ [] =
@@ -92,35 +79,23 @@ returns-in-Ok-clause-ok c =
     let parts = parts_of c.self.inside.parts.items in
     let events = c.self.inside.events.items in
     let s = state_after script.vbuckets events in
-    let client : c.args.c < script.clients = subst (λ (q : Past). c.args.c < q.script.clients) (sym c.self.view_is) c.requires.client in
-    let there = part_there_in script store indexes newest parts s c.args.c kept.state client in
     let k = (s.client c.args.c).next in
     let next : c.next_of-k.result ≡ k = subst (λ (q : Past). c.next_of-k.result ≡ (part_in q c.args.c).next) (sym c.self.view_is) c.next_of-k.ensures in
     let i = c.args.c in
     let j = c.in-Ok.i in
     let def : IndexDef = arc_value c.args.creation.def in
     let deferred = c.args.deferred in
-    let parts' = parts_of c.define_at.new.parts.items in
     let old : Past = record { script = script; events = events; spare = vec_capacity c.self.inside.events - vec_len c.self.inside.events } in
     let first : IsFirstEvent old i (creation_of s i k def deferred) =
     subst (λ (q : Past). IsFirstEvent q i (creation_of (state_of q) i (part_in q i).next def deferred)) (sym c.self.view_is) c.requires.first in
     let made = subst (λ (q : Past). IsCreationOf q def deferred c.args.creation) (sym c.self.view_is) c.requires.prepared in
     let in_catalog : arc_value c.args.creation.shared ≡ def = made.in_catalog in
-    let holds = c.known.ensures.consistent script events kept.legal in
-    let number : j ≡ length s.defs = c.in-Ok.ensures.number ∙ kept.state.made in
-    let no : creation_fault def.name c.self.inside.catalog ≡ None =
-    subst (λ (d : IndexDef). creation_fault d.name c.self.inside.catalog ≡ None) in_catalog (no_fault (creation_fault (arc_value c.args.creation.shared).name c.self.inside.catalog) j c.in-Ok.ensures.refused) in
-    let few : c.self.inside.catalog.made ≤ 16 = subst (λ (n : ℕ). n ≤ 16) (sym kept.state.made) holds.made in
-    let no' : cond (is_live s.live def.name) (Some Exists) (cond (nat_le max_indexes (length s.defs)) (Some TooMany) None) ≡ None =
-    subst (λ (n : ℕ). cond (is_live s.live def.name) (Some Exists) (cond (nat_le max_indexes n) (Some TooMany) None) ≡ None) kept.state.made
-    (subst (λ (l : List Live). cond (is_live l def.name) (Some Exists) (cond (nat_le max_indexes c.self.inside.catalog.made) (Some TooMany) None) ≡ None) kept.state.live
-    (sym (ap (λ b. cond (is_live c.self.inside.catalog.live def.name) (Some Exists) (cond b (Some TooMany) None)) (full c.self.inside.catalog.made few)) ∙ no)) in
+    let no : creation_fault def.name indexes ≡ None =
+    subst (λ (d : IndexDef). creation_fault d.name indexes ≡ None) in_catalog (no_fault (creation_fault (arc_value c.args.creation.shared).name indexes) j c.in-Ok.ensures.refused) in
+    let comes = creation_comes c.known.ensures old store indexes newest parts kept i k j def deferred c.in-Ok.ensures.number no first in
+    let number : j ≡ length s.defs = comes.0 in
+    let may = comes.1 in
     let e : Event = define i k j deferred def in
-    let first' : IsFirstEvent old i e =
-    subst (λ (n : ℕ). IsFirstEvent old i (define i k n deferred def)) (sym number)
-    (subst (IsFirstEvent old i) (creation_done (is_live s.live def.name) (nat_le max_indexes (length s.defs)) (refuse i k code.exists Plain) (refuse i k code.too_many_indexes Plain)
-    (define i k (length s.defs) deferred def) no') first) in
-    let may = first_comes c.known.ensures old i e first' in
     let added : c.push_reserved-in-Ok.new.self.items ≡ events ++ e ∷ [] =
     c.push_reserved-in-Ok.ensures.items ∙ ap (λ (x : Event). events ++ x ∷ []) (c.new.ensures ∙ ap (λ (n : ℕ). define i n j deferred (arc_value c.args.creation.def)) next) in
     let new : Past = record { script = script; events = c.push_reserved-in-Ok.new.self.items; spare = vec_capacity c.push_reserved-in-Ok.new.self - vec_len c.push_reserved-in-Ok.new.self } in
