@@ -49,7 +49,7 @@ module _ (read : List ℕ → Read) (script : Script) (s : State) (c : ℕ) wher
   own_of_open nothing e is =
       by_made (IsOf c) (first_of read script s c k) (command_at script c k) e
       (λ asked there.
-      by_command read script s c k (IsOf c) (λ what. refl) (λ i deferred def. refl) (λ numbers. refl) (λ i. refl)
+      by_command read script s c k (IsOf c) (λ what. refl) (λ i deferred def. refl) (λ names deferred. refl) (λ name index is. refl)
       (λ name index demand found online. refl) (λ number why. refl) asked)
       is
   own_of_open (work numbers since) e is = subst (IsOf c) (same_Some (end_of_work c k (live_among numbers s)) e is) (end_is_own c k (live_among numbers s))

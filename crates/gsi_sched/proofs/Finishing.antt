@@ -22,7 +22,7 @@ use Rattle.scan_history.specs.Refusals as code
 use Rattle.scan_history.specs.Sound.{IsSound}
 use Rattle.gsi_sched.specs.Machine.{Machine, now_in, high_in, published_in, with_event}
 use Rattle.gsi_sched.specs.ClientActions.{live_numbers, awaited_by, caught_up, merge, going_online, happened, act}
-use Rattle.gsi_sched.specs.FinalReplay.{after_actions, after_clients, after_schedule, at_the_end, history_of}
+use Rattle.gsi_sched.specs.Replay.{after_actions, after_clients, after_schedule, at_the_end, history_of}
 use Rattle.gsi_sched.specs.Running.{IsRunning}
 use Rattle.gsi_sched.specs.inner.Below.{Below}
 use Rattle.gsi_sched.proofs.Served.{slice_past, each_weaker}
@@ -66,7 +66,7 @@ module _ (read : List ℕ → Read) (script : Script) (s : State) (c : ℕ) wher
       (λ asked there.
       by_command read script s c part.next (Moves 0) (λ what. omega arith)
       (λ i deferred def. cond_both deferred _ _ (λ (p : Part). 3 * part.next + 0 < progress p) (λ yes. omega arith) (λ no. omega arith))
-      (λ numbers. omega arith) (λ i. omega arith) (λ name index demand found online. omega arith) (λ number why. omega arith) asked)
+      (λ names deferred. omega arith) (λ name index is. omega arith) (λ name index demand found online. omega arith) (λ number why. omega arith) asked)
       is
 
   end_moves : (is : List ℕ) → Moves 1 (end_of_work c part.next is)

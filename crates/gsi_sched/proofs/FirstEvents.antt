@@ -1,9 +1,9 @@
 -- What the first action of a command can be.
-use Rattle.std.proofs.Common.{◌≡◌, ℕ, Bool, true, not, List, length, nat_le, Option, Some, None, refl, subst}
+use Rattle.std.proofs.Common.{◌≡◌, ℕ, Bool, true, false, not, List, length, nat_le, Option, Some, None, refl, subst}
 use Rattle.std.specs.List.{list_all}
 use Rattle.std.specs.Option.{option_map, option_map_or}
 use Rattle.std.specs.Str.{bytes_eq}
-use Rattle.std.proofs.lemmas.Bool.{cond_both}
+use Rattle.std.proofs.lemmas.Bool.{cond_both, true≢false}
 use Rattle.n1ql_value.specs.Limits.{max_indexes}
 use Rattle.vb_store.specs.declared.mutation.Mutation.{Mutation}
 use Rattle.vb_store.specs.Mutations.{high_of, next_mutation}
@@ -38,13 +38,17 @@ pub by_made : {A B : Type 0} (P : B → Type 0) (f : A → B) (o : Option A) (b 
 by_made P f None b there is = absurd cc
 by_made P f (Some x) b there is = let it : f x ≡ b = cc in subst P it (there x refl)
 
+so_unless_not : (b : Bool) → not b ≡ false → b ≡ true
+so_unless_not true is = refl
+so_unless_not false is = absurd (true≢false is)
+
 -- What holds of each event that a first action can be, holds of the first action.
 module _
     (read : List ℕ → Read) (script : Script) (s : State) (c k : ℕ) (Holds : Event → Type 0)
     (mutates : (what : Mutation) → Holds (mutate c k what))
     (defines : (i : ℕ) (deferred : Bool) (def : IndexDef) → Holds (define c k i deferred def))
-    (builds : (numbers : List ℕ) → Holds (build c k numbers))
-    (removes : (i : ℕ) → Holds (removed c k i))
+    (builds : (names : List (List ℕ)) → list_all (is_live_deferred s.live) names ≡ true → Holds (build c k (first_of_each (numbers_of names s.live))))
+    (removes : (name : List ℕ) (index : Live) → named name s.live ≡ Some index → Holds (removed c k index.number))
     (starts : (name : List ℕ) (index : Live) (demand : List ℕ) → named name s.live ≡ Some index → is_online index.state ≡ true → Holds (start c k index.number demand))
     (refuses : (number : ℕ) (why : Why) → Holds (refuse c k number why)) where
   by_sound : (create : Create) → Holds (first_of_sound s c k create)
@@ -62,12 +66,12 @@ module _
   by_build names =
       cond_both (not (list_all (is_live s.live) names)) (refuse c k code.unknown_index Plain) _ Holds (λ unknown. refuses code.unknown_index Plain)
       (λ live. cond_both (not (list_all (is_live_deferred s.live) names)) (refuse c k code.not_deferred Plain) (build c k (first_of_each (numbers_of names s.live))) Holds
-      (λ other. refuses code.not_deferred Plain) (λ deferred. builds (first_of_each (numbers_of names s.live))))
+      (λ other. refuses code.not_deferred Plain) (λ deferred. builds names (so_unless_not (list_all (is_live_deferred s.live) names) deferred)))
 
   by_drop : (name : List ℕ) → Holds (first_of_drop s c k name)
   by_drop name =
       by_option Holds (λ (index : Live). removed c k index.number) (refuse c k code.unknown_index Plain) (named name s.live)
-      (λ index is. removes index.number) (λ none. refuses code.unknown_index Plain)
+      (λ index is. removes name index is) (λ none. refuses code.unknown_index Plain)
 
   by_keyspace : (keyspace : List ℕ) (e : Event) → Holds e → Holds (in_keyspace script keyspace c k e)
   by_keyspace keyspace e holds =

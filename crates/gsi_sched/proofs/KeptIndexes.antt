@@ -74,7 +74,7 @@ module _ (below : Below) (stood : Stood) (script : Script) where
     begun_now i later found_then before =
         subst (λ w. IsKept n t.log later.def (first_slot i later.def n) w) (sym (runs.serving.fresh i before).0) (begins stood n t.log later.def i holds_then.log)
 
-    had_not_begun : (i : ℕ) (later : Live) → numbered i t.live ≡ Some later → is_working s i ≡ false → HasNotBegun s i
+    pub had_not_begun : (i : ℕ) (later : Live) → numbered i t.live ≡ Some later → is_working s i ≡ false → HasNotBegun s i
     had_not_begun i later found_then none = by (numbered i s.live) refl
       where
         unless_made : (length s.defs ≤ i) ⊎ (i < length s.defs) → numbered i s.live ≡ None → HasNotBegun s i

@@ -24,7 +24,7 @@ use Rattle.scan_history.specs.Sound.{IsSound, IsTurn}
 use Rattle.gsi_sched.specs.Machine.{Worker, Machine, first_machine, now_in, high_in, published_in, with_event, with_worker, taken, unsent}
 use Rattle.gsi_sched.specs.ScheduleLines.{has_worker, is_building, on_index, given, project, given_to, project_to, deliver, lose, publish_at, publish_now, rewind_to}
 use Rattle.gsi_sched.specs.ClientActions.{awaited_by, catch_up, caught_up, live_numbers, going_online, merge, happened, act}
-use Rattle.gsi_sched.specs.FinalReplay.{after_turn, after_actions, at_the_end, after_clients, after_schedule}
+use Rattle.gsi_sched.specs.Replay.{after_turn, after_actions, at_the_end, after_clients, after_schedule}
 use Rattle.gsi_sched.specs.Running.{IsWithinHigh, IsServed, IsWorking, IsRunning}
 use Rattle.gsi_sched.specs.Slots.{Slot, numbers_in, after_deliveries, numbers_after_delivery, HasSlots as HasSlotsAmong}
 use Rattle.gsi_sched.specs.inner.Below.{Below}

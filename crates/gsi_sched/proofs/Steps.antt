@@ -201,7 +201,7 @@ module _ (below : Below) (script : Script) where
       by_made (StartsBuilt s) (first_of read script s c (s.client c).next) (command_at script c (s.client c).next) e
       (λ asked there.
       by_command read script s c (s.client c).next (StartsBuilt s)
-      (λ what. tt) (λ i deferred def. tt) (λ numbers. tt) (λ i. tt)
+      (λ what. tt) (λ i deferred def. tt) (λ names deferred. tt) (λ name index is. tt)
       (λ name index demand found online.
       built_if s.live index.number index (found_numbered (is_named name) 0 made s.live index numbers found).1 (online_is_built index.state online))
       (λ number why. tt) asked)

@@ -19,7 +19,7 @@ use Rattle.scan_history.specs.Sound.{IsSound, IsTurn}
 use Rattle.gsi_sched.specs.Machine.{Machine, first_machine, idle, now_in}
 use Rattle.gsi_sched.specs.ScheduleLines.{has_worker, is_building, project_to, deliver, lose, publish_now, rewind_to}
 use Rattle.gsi_sched.specs.ClientActions.{live_numbers, act}
-use Rattle.gsi_sched.specs.FinalReplay.{after_turn, after_actions, after_clients, after_schedule, at_the_end, history_of}
+use Rattle.gsi_sched.specs.Replay.{after_turn, after_actions, after_clients, after_schedule, at_the_end, history_of}
 use Rattle.gsi_sched.specs.Running.{IsFlowing, IsServed, IsWorking, IsRunning}
 use Rattle.gsi_sched.specs.inner.Below.{Below}
 use Rattle.gsi_sched.proofs.LiveIndexes.{online_is_built, each_among, each_numbered}

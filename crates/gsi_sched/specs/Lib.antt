@@ -1,9 +1,11 @@
-pub mod Replay
 pub mod Machine
 pub mod ScheduleLines
 pub mod ClientActions
-pub mod FinalReplay
+pub mod Replay
 pub mod Running
 pub mod Slots
-pub mod WorkedReplays
+pub mod WorkedScripts
+pub mod WorkedStreams
+pub mod WorkedRequests
+pub mod WorkedStatements
 pub mod inner

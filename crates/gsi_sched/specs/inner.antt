@@ -1,5 +1,8 @@
 -- For private clauses: a reader of the public clauses needs nothing of it.
-pub mod Run
-pub mod Statement
 pub mod Below
 pub mod Stood
+pub mod SlotLists
+pub mod StreamSteps
+pub mod Following
+pub mod ClientTurns
+pub mod Known

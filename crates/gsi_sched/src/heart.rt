@@ -18,7 +18,7 @@ ghost use Rattle.scan_history.specs.Readings.{Read, AreRead};
 ghost use Rattle.scan_history.specs.Sound.{IsSound, IsTurn};
 ghost use Rattle.gsi_sched.specs.Machine.{Worker, Machine, first_machine, idle, put_at, now_in, with_event, with_worker, sent, unsent};
 ghost use Rattle.gsi_sched.specs.ScheduleLines.{given};
-ghost use Rattle.gsi_sched.specs.FinalReplay.{after_turn, after_schedule, after_clients, at_the_end};
+ghost use Rattle.gsi_sched.specs.Replay.{after_turn, after_schedule, after_clients, at_the_end};
 ghost use Rattle.gsi_sched.specs.Running.{IsRunning};
 ghost use Rattle.gsi_sched.specs.Slots.{Slot, numbers_in, first_slot, with_piece, without_piece, after_delivery, numbers_after_delivery, after_deliveries, BringUp, IsKept, begun_slots, given_slots, AreKept, HasSlots};
 ghost use Rattle.gsi_sched.specs.inner.Stood.{Stood};
@@ -28,7 +28,7 @@ use index_snapshot::laws as workers;
 use vb_store::laws as mutations;
 
 /// What the crates below promise of workers and pieces that stand for mutations.
-fn stood()
+pub(crate) fn stood()
     ensures { Stood }
 {
     pieces_grow();

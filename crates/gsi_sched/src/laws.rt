@@ -11,7 +11,7 @@ ghost use Rattle.scan_history.specs.Readings.{Read, AreRead};
 ghost use Rattle.scan_history.specs.Sound.{IsSound, IsTurn};
 ghost use Rattle.gsi_sched.specs.Machine.{Machine, first_machine, now_in, high_in, published_in};
 ghost use Rattle.gsi_sched.specs.ClientActions.{awaited_by, catch_up, caught_up, act};
-ghost use Rattle.gsi_sched.specs.FinalReplay.{after_turn, at_the_end, history_of};
+ghost use Rattle.gsi_sched.specs.Replay.{after_turn, at_the_end, history_of};
 ghost use Rattle.gsi_sched.specs.Running.{IsWorking, IsRunning};
 ghost use Rattle.gsi_sched.specs.inner.Below.{Below};
 

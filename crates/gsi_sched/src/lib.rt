@@ -2,18 +2,13 @@
 //! that the commands hold and makes the texts of their answers; the lines of scripts and reports are script_text's.
 #![tactic(auto)]
 
-mod client;
-mod ends;
 pub mod heart;
-mod index_build;
 pub mod laws;
-mod replay_state;
+mod machine;
 mod rows_text;
-mod script_replay;
-mod statement;
 pub mod worked_replays;
 
-pub use script_replay::replay;
+pub use machine::whole::replay;
 
 #[cfg(test)]
 mod tests;

@@ -1,7 +1,7 @@
 use Rattle.std.proofs.Common.{ℕ, List, ap}
 use mathlib.Core.Path.{fun_ext}
 use Rattle.scan_history.specs.Readings.{Read}
-use Rattle.gsi_sched.specs.FinalReplay.{history_of}
+use Rattle.gsi_sched.specs.Replay.{history_of}
 use Rattle.gsi_sched.proofs.laws.a_script_has_one_replay.Goals as goal
 
 pub returns : goal.returns

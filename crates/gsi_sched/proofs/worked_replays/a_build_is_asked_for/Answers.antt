@@ -11,8 +11,9 @@ use Rattle.scan_history.specs.Fold.{state_after}
 use Rattle.scan_history.specs.Readings.{Read}
 use Rattle.gsi_sched.specs.Machine.{Machine, first_machine, now_in}
 use Rattle.gsi_sched.specs.ClientActions.{happened, act}
-use Rattle.gsi_sched.specs.FinalReplay.{after_actions, at_the_end, history_of}
-use Rattle.gsi_sched.specs.WorkedReplays.{creation_of, a_build_is_asked_for_read, a_build_is_asked_for_script}
+use Rattle.gsi_sched.specs.Replay.{after_actions, at_the_end, history_of}
+use Rattle.gsi_sched.specs.WorkedScripts.{creation_of}
+use Rattle.gsi_sched.specs.WorkedStatements.{a_build_is_asked_for_read, a_build_is_asked_for_script}
 use Rattle.gsi_sched.proofs.worked_replays.a_build_is_asked_for.Goals as goal
 
 pub returns : goal.returns

@@ -1,7 +1,7 @@
 use Rattle.std.proofs.Common.{refl}
 use Rattle.seq_vector.specs.Vectors.{fnv1a}
 use Rattle.scan_history.specs.Fold.{state_after}
-use Rattle.gsi_sched.specs.FinalReplay.{history_of}
+use Rattle.gsi_sched.specs.Replay.{history_of}
 use Rattle.gsi_sched.proofs.worked_replays.a_drop_under_a_build.Goals as goal
 
 pub returns : goal.returns

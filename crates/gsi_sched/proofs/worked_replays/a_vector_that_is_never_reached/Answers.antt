@@ -1,7 +1,7 @@
 use Rattle.std.proofs.Common.{refl}
 use Rattle.seq_vector.specs.Vectors.{fnv1a}
 use Rattle.scan_history.specs.Fold.{state_after}
-use Rattle.gsi_sched.specs.FinalReplay.{history_of}
+use Rattle.gsi_sched.specs.Replay.{history_of}
 use Rattle.gsi_sched.proofs.worked_replays.a_vector_that_is_never_reached.Goals as goal
 
 pub returns : goal.returns

@@ -12,8 +12,9 @@ use Rattle.scan_history.specs.Fold.{state_after}
 use Rattle.scan_history.specs.Readings.{Read}
 use Rattle.gsi_sched.specs.Machine.{Machine, first_machine, now_in}
 use Rattle.gsi_sched.specs.ClientActions.{happened, act}
-use Rattle.gsi_sched.specs.FinalReplay.{after_actions, at_the_end, history_of}
-use Rattle.gsi_sched.specs.WorkedReplays.{creation_of, each_refusal_read, each_refusal_script}
+use Rattle.gsi_sched.specs.Replay.{after_actions, at_the_end, history_of}
+use Rattle.gsi_sched.specs.WorkedScripts.{creation_of}
+use Rattle.gsi_sched.specs.WorkedStatements.{each_refusal_read, each_refusal_script}
 use Rattle.gsi_sched.proofs.worked_replays.each_refusal.Goals as goal
 
 pub returns : goal.returns
