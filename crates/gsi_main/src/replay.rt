@@ -2,10 +2,11 @@ ghost use Rattle.std.specs.Prelude.{◌≡◌, ◌<◌, ◌↔◌, ℕ, IfSome, 
 ghost use Rattle.n1ql_value.specs.Limits.{max_input_bytes};
 ghost use Rattle.scan_history.specs.declared.kind.Kind.{Kind};
 ghost use Rattle.scan_history.specs.declared.what.What.{What};
-ghost use Rattle.gsi_main.specs.Answer.{for_input, bad_line, past_limit};
+ghost use Rattle.script_text.specs.Scripts.{bad, too_large};
+ghost use Rattle.gsi_main.specs.Answer.{outcome_for};
 ghost use Rattle.gsi_main.specs.Faults.{Rose};
 ghost use Rattle.gsi_main.specs.Reading.{TookPast};
-ghost use Rattle.gsi_main.specs.Replay.{IsReplay, IsFor, Replayed, PartlyReplayed, Answered};
+ghost use Rattle.gsi_main.specs.Replay.{IsReplay, IsFor, Replayed, PartlyReplayed, TookWhole};
 
 use crate::answer::answer_for;
 use crate::reading::{Unread, read_input};
@@ -29,12 +30,12 @@ pub fn gsi_replay<S: Source, K: Sink>(
 ) -> Status
     ensures done { result ≡ Status.Done →
         Replayed (S.left source.old) (S.left source.new) (K.held sink.old) (K.held sink.new) }
-    ensures exact { IsReplay words.now → IfSome (S.left source.old) (λ input. IsFor result (for_input input)) }
+    ensures exact { IsReplay words.now → IfSome (S.left source.old) (λ input. IsFor result (outcome_for input)) }
     ensures words { (result ≡ Status.Words) ↔ ¬ IsReplay words.now }
     ensures bad_line { (line : ℕ) (kind : Kind) → result ≡ Status.Script line kind →
-        Answered (S.left source.old) (S.left source.new) (bad_line line kind) }
+        TookWhole (S.left source.old) (S.left source.new) (bad line kind) }
     ensures limit { (what : What) (limit : ℕ) → result ≡ Status.TooLarge what limit → ¬ (what ≡ What.Input) →
-        Answered (S.left source.old) (S.left source.new) (past_limit what limit) }
+        TookWhole (S.left source.old) (S.left source.new) (too_large what limit) }
     ensures input_limit { result ≡ Status.TooLarge What.Input max_input_bytes →
         TookPast max_input_bytes (S.left source.old) (S.left source.new) }
     ensures read_fault { result ≡ Status.ReadFault → Rose (S.faults source.old) (S.faults source.new) }

@@ -68,9 +68,15 @@ fn scripts(rt: HostRuntime) -> Result<(), Fail> {
         ),
         (
             "",
-            "{\"gsi\":1,\"vbuckets\":1,\"clients\":2}",
+            "{\"gsi\":1,\"vbuckets\":1,\"clients\":65}",
             "",
-            bad(1, Kind::Unbuilt),
+            bad(1, Kind::Range),
+        ),
+        (
+            "",
+            "{\"gsi\":1,\"vbuckets\":1,\"clients\":64,\"keyspace\":\"shop\"}",
+            "",
+            Status::Done,
         ),
         (
             "",
@@ -98,8 +104,19 @@ fn commands(rt: HostRuntime) -> Result<(), Fail> {
     for (second, third, status) in [
         (UPSERT, delete, Status::Done),
         (DDL, SCAN, Status::Done),
-        (SCAN, DDL, bad(2, Kind::Unbuilt)),
-        (DDL, DDL, bad(3, Kind::Unbuilt)),
+        (SCAN, DDL, Status::Done),
+        (DDL, DDL, Status::Done),
+        (
+            "{\"c\":0,\"do\":\"ddl\",\"q\":\"nothing that can be read\"}",
+            "{\"s\":\"deliver\",\"index\":\"ix\",\"place\":7}",
+            Status::Done,
+        ),
+        ("{\"s\":\"client\",\"c\":0}", SCAN, Status::Done),
+        (
+            "{\"s\":\"client\",\"c\":0}",
+            "{\"s\":\"client\",\"c\":1}",
+            bad(3, Kind::Range),
+        ),
         (UPSERT, "{\"c\":0,\"do\":\"up", bad(3, Kind::Syntax)),
         (UPSERT, "[]", bad(3, Kind::Shape)),
         (
@@ -121,6 +138,11 @@ fn commands(rt: HostRuntime) -> Result<(), Fail> {
             "{\"c\":0,\"do\":\"query\",\"q\":\"\"}",
             "{}",
             bad(2, Kind::Unbuilt),
+        ),
+        (
+            DDL,
+            "{\"c\":0,\"do\":\"query\",\"q\":\"SELECT x FROM ks WHERE x > 1\",\"consistency\":\"request_plus\"}",
+            bad(3, Kind::Unbuilt),
         ),
     ] {
         let input = format!(in rt.alloc(); "{HEADER}\n{second}\n{third}")?;
