@@ -5,3 +5,4 @@ mod Floats
 mod Held
 mod Back
 mod Whole
+mod Trees

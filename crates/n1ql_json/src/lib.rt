@@ -4,11 +4,14 @@
 
 mod fault;
 pub mod laws;
+mod reader;
 mod reading;
 #[cfg(test)]
 mod tests;
+mod tree;
 mod writing;
 
 pub use fault::JsonFault;
+pub use reader::JsonReader;
 pub use reading::{read, value_from};
 pub use writing::write;

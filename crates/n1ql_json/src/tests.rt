@@ -12,8 +12,8 @@ fn nested(alloc: Global, depth: usize) -> Result<Vec<u8>, AllocError> {
 }
 
 // What becomes of a text: its compact text, or the fault's name.
-fn outcome(alloc: Global, text: &[u8]) -> Result<String, AllocError> {
-    match read(alloc, text) {
+fn outcome(alloc: Global, answer: Result<Value, JsonFault>) -> Result<String, AllocError> {
+    match answer {
         Ok(value) => {
             let mut out = Vec::new(alloc);
             if write(&value, &mut out).is_err() {
@@ -59,9 +59,10 @@ fn texts_and_their_outcomes(rt: HostRuntime) -> Result<(), Fail> {
         (b"MISSING", "Syntax"),
         (b"\"/\\u002f\"", "\"//\""),
     ];
+    let mut reader = JsonReader::new(alloc);
     for (text, want) in cases {
-        let got = outcome(alloc, text)?;
-        assert_eq!(rt; got.as_str(), want);
+        assert_eq!(rt; outcome(alloc, read(alloc, text))?.as_str(), want);
+        assert_eq!(rt; outcome(alloc, reader.read(text))?.as_str(), want);
     }
     Ok(())
 }
@@ -69,8 +70,12 @@ fn texts_and_their_outcomes(rt: HostRuntime) -> Result<(), Fail> {
 #[test]
 fn nesting_and_missing(rt: HostRuntime) -> Result<(), Fail> {
     let alloc = rt.alloc();
+    let mut reader = JsonReader::new(alloc);
     assert!(rt; read(alloc, &nested(alloc, 127)?).is_ok());
-    assert_eq!(rt; outcome(alloc, &nested(alloc, 128)?)?.as_str(), "Syntax");
+    assert!(rt; reader.read(&nested(alloc, 127)?).is_ok());
+    let deeper = nested(alloc, 128)?;
+    assert_eq!(rt; outcome(alloc, read(alloc, &deeper))?.as_str(), "Syntax");
+    assert_eq!(rt; outcome(alloc, reader.read(&deeper))?.as_str(), "Syntax");
     let tree = serde_json::Value::Bool(true);
     assert!(rt; matches!(value_from(alloc, tree), Ok(Value::Bool(true))));
     let mut items = Vals::new(alloc);

@@ -10,6 +10,7 @@ use crate::reader::format::sizes::Sizes;
 use crate::reader::script::line::members_of;
 use crate::reader::script::line_fault::LineFault;
 use crate::reader::values::members::{count_at, number_at, text_at};
+use n1ql_json::JsonReader;
 use n1ql_value::{Memory, Pairs, Text};
 use scan_history::Kind;
 use std::alloc::Global;
@@ -27,10 +28,14 @@ pub(crate) struct Header {
 
 /// The header that a line is.
 #[tactic(auto, unfolding(crate::specs::Items::header_of_line))]
-pub(crate) fn read_header(alloc: Global, line: &[u8]) -> Result<Header, LineFault>
+pub(crate) fn read_header(
+    alloc: Global,
+    reader: &mut JsonReader,
+    line: &[u8],
+) -> Result<Header, LineFault>
     ensures { LineReadsAs (header_of_line line.now) result }
 {
-    let members = members_of(alloc, line)?;
+    let members = members_of(reader, line)?;
     checked_header(alloc, &members)
 }
 

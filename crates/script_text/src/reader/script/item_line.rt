@@ -13,17 +13,23 @@ use crate::reader::script::line::members_of;
 use crate::reader::script::line_fault::LineFault;
 use crate::reader::script::turn::turn_of;
 use crate::reader::values::members::count_at;
+use n1ql_json::JsonReader;
 use n1ql_value::{Memory, Pairs};
 use scan_history::Kind;
 use std::alloc::Global;
 
 /// What a line after the header says.
 #[tactic(auto, unfolding(crate::specs::Items::item_of_line))]
-pub(crate) fn read_item_line(alloc: Global, sizes: Sizes, line: &[u8]) -> Result<Item, LineFault>
+pub(crate) fn read_item_line(
+    alloc: Global,
+    reader: &mut JsonReader,
+    sizes: Sizes,
+    line: &[u8],
+) -> Result<Item, LineFault>
     requires { IsVBucketCount sizes.vbuckets }
     ensures { LineReadsAs (item_of_line sizes line.now) result }
 {
-    let members = members_of(alloc, line)?;
+    let members = members_of(reader, line)?;
     by_form(alloc, sizes, members)
 }
 

@@ -4,16 +4,15 @@ ghost use Rattle.n1ql_value.specs.Kinds.{object_in};
 ghost use Rattle.script_text.specs.inner.Lines.{LineReadsAs};
 
 use crate::reader::script::line_fault::LineFault;
-use n1ql_json::{JsonFault, read};
+use n1ql_json::{JsonFault, JsonReader};
 use n1ql_value::{Pairs, Value};
 use scan_history::Kind;
-use std::alloc::Global;
 
 /// The members of the object that a line is.
-pub(crate) fn members_of(alloc: Global, line: &[u8]) -> Result<Pairs, LineFault>
+pub(crate) fn members_of(reader: &mut JsonReader, line: &[u8]) -> Result<Pairs, LineFault>
     ensures { LineReadsAs (members_of line.now) result }
 {
-    match read(alloc, line) {
+    match reader.read(line) {
         Ok(value) => match object_in(value) {
             Some(members) => Ok(members),
             None => Err(LineFault::Bad(Kind::Shape)),

@@ -12,6 +12,7 @@ use crate::reader::script::item::Item;
 use crate::reader::script::items::{check_lines, items_from};
 use crate::reader::script::lists::lists_of;
 use crate::reader::script::script_fault::ScriptFault;
+use n1ql_json::JsonReader;
 use n1ql_value::limits::{MAX_LINES, MAX_PRODUCT, MAX_SCANS};
 use n1ql_value::{ListOf, Memory};
 use scan_history::{Command, Kind, Script, What};
@@ -30,14 +31,20 @@ pub fn read_script(alloc: Global, input: &[u8]) -> Result<Script, ScriptFault>
     ensures sound { IfOk result (λ script. IsSound script) }
     ensures limits { (limit : ℕ) → ¬ (result ≡ Err (ScriptFault.TooLarge What.Input limit)) }
 {
-    read_lines(alloc, Lines::new(input))
+    // one for all lines, since it keeps its room from line to line
+    let mut reader = JsonReader::new(alloc);
+    read_lines(alloc, &mut reader, Lines::new(input))
 }
 
-fn read_lines(alloc: Global, mut lines: Lines<'_>) -> Result<Script, ScriptFault>
+fn read_lines(
+    alloc: Global,
+    reader: &mut JsonReader,
+    mut lines: Lines<'_>,
+) -> Result<Script, ScriptFault>
     ensures { ReadsAs (outcome_of lines.entry) result }
 {
     match lines.next() {
-        Some(line) => read_header_line(alloc, line, lines),
+        Some(line) => read_header_line(alloc, reader, line, lines),
         None => Err(ScriptFault::Line {
             line: 1,
             kind: Kind::Shape,
@@ -46,27 +53,37 @@ fn read_lines(alloc: Global, mut lines: Lines<'_>) -> Result<Script, ScriptFault
 }
 
 /// The script with this line for its header.
-fn read_header_line(alloc: Global, line: Line<'_>, lines: Lines<'_>) -> Result<Script, ScriptFault>
+fn read_header_line(
+    alloc: Global,
+    reader: &mut JsonReader,
+    line: Line<'_>,
+    lines: Lines<'_>,
+) -> Result<Script, ScriptFault>
     ensures { ReadsAs (outcome_with_header line.entry.number lines.entry (header_of_line line.entry.bytes.now)) result }
 {
-    match read_header(alloc, line.bytes) {
-        Ok(header) => read_item_lines(alloc, header, lines),
+    match read_header(alloc, reader, line.bytes) {
+        Ok(header) => read_item_lines(alloc, reader, header, lines),
         Err(fault) => Err(fault.at(line.number)),
     }
 }
 
-fn read_item_lines(alloc: Global, header: Header, lines: Lines<'_>) -> Result<Script, ScriptFault>
+fn read_item_lines(
+    alloc: Global,
+    reader: &mut JsonReader,
+    header: Header,
+    lines: Lines<'_>,
+) -> Result<Script, ScriptFault>
     requires { IsVBucketCount header.sizes.vbuckets }
     ensures { ReadsAs (outcome_with_commands header (items_from header.sizes lines.entry)) result }
 {
     match limit_passed(header.sizes.vbuckets, lines.len() as u64) {
         // a bad line goes before a limit, so each is read, but what so many say is not kept
         Some(passed) => {
-            check_lines(alloc, header.sizes, lines)?;
+            check_lines(alloc, reader, header.sizes, lines)?;
             Err(passed)
         }
         None => {
-            let items = items_from(alloc, header.sizes, lines)?;
+            let items = items_from(alloc, reader, header.sizes, lines)?;
             within_scans(alloc, header, items)
         }
     }
