@@ -16,7 +16,7 @@ use std::alloc::Global;
 /// How deep arrays and objects may nest.
 const MAX_DEPTH: usize = 127;
 
-/// A reader of many texts: it keeps the room that a read needs, which `read` clears anew for each text.
+/// A reader of many texts: it keeps the room that a read needs, where `read` clears such room for each text.
 #[derive(Drop)]
 pub struct JsonReader {
     alloc: Global,
@@ -36,7 +36,7 @@ impl JsonReader {
     ///
     /// # Errors
     ///
-    /// Those of `read`, each exactly where `read` has it.
+    /// `Syntax` and `Number` exactly where `read` has them. `Memory` where it ran out.
     pub fn read(&mut self, bytes: &[u8]) -> Result<Value, JsonFault>
         ensures { Gives (read_of bytes.now) result }
     {
