@@ -1,0 +1,5 @@
+use Rattle.n1ql_meaning.proofs.Computing.{levels}
+use Rattle.n1ql_meaning.proofs.worked_results.a_row_for_each_element.Goals as goal
+
+pub returns : goal.returns
+returns c = simp levels

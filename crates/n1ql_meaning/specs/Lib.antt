@@ -1,0 +1,11 @@
+pub mod OrderKeys
+pub mod Rows
+pub mod Aggregates
+pub mod Groups
+pub mod Results
+pub mod Finish
+pub mod Meaning
+pub mod Likeness
+pub mod WorkedForms
+pub mod WorkedResults
+pub mod WorkedGroups
