@@ -9,6 +9,3 @@ mod rows_text;
 pub mod worked_replays;
 
 pub use machine::whole::replay;
-
-#[cfg(test)]
-mod tests;
