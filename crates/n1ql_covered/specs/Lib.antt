@@ -1,0 +1,3 @@
+pub mod OverKeys
+pub mod ShownRows
+pub mod inner

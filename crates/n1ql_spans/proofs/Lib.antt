@@ -1,0 +1,14 @@
+pub mod LawsBelow
+pub mod Tests
+pub mod Maps
+pub mod RangesHold
+pub mod ComparisonsHold
+pub mod BoundingHolds
+pub mod SpansHold
+pub mod LawOfSpans
+pub mod FormedConjuncts
+pub mod Neighbours
+pub mod DistinctValues
+pub mod Covered
+pub mod CoveredByCases
+pub mod Constants

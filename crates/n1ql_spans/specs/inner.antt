@@ -1,0 +1,3 @@
+-- For private clauses: a reader of the public clauses needs nothing of it.
+pub mod Neighbours
+pub mod ReadWhole

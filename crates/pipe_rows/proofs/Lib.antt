@@ -1,0 +1,12 @@
+pub mod Pairing
+pub mod Formed
+pub mod Forming
+pub mod Alone
+pub mod Rowing
+pub mod Sorted
+pub mod Cutting
+pub mod Elements
+pub mod Fields
+pub mod Orders
+pub mod Telling
+pub mod Firsts

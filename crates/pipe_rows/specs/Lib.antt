@@ -1,0 +1,3 @@
+pub mod Evaluable
+pub mod Pipes
+pub mod Seen
