@@ -1,0 +1,5 @@
+mod Answered
+mod ById
+mod Evaluable
+pub mod Made
+pub mod Texts
